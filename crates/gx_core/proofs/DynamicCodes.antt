@@ -30,7 +30,7 @@ use Rattle.gx_funcs.specs.declared.function.Conversion.{Conversion}
 use Rattle.gx_funcs.specs.declared.function.Conversion.TheVariants.{Nothing, Data, DataAndCast}
 use Rattle.gx_funcs.specs.declared.value_function.ValueFunction.{ValueFunction}
 use Rattle.gx_funcs.specs.Values.{ValueAnswer, value_answer}
-use Rattle.gx_funcs.specs.Function.{ItemView, effective_boolean, string_of_items, one_answer, truth_atom, string_atom, applied, text_function_of, value_function_of, value_parameters_of, conversion_of}
+use Rattle.gx_funcs.specs.Function.{ItemView, effective_boolean, string_of_items, one_answer, truth_atom, string_atom, applied, text_function_of, value_function_of, item_function_of, value_parameters_of, item_parameters_of, conversion_of}
 use Rattle.gx_model.specs.Forest.{Forest, PlainNode, then_found}
 use Rattle.gx_funcs.specs.declared.text_function.TextFunction.{TextFunction}
 use Rattle.gx_funcs.specs.Texts.{text_answer}
@@ -68,7 +68,12 @@ use Rattle.gx_core.specs.ComparingNodes.{compared_nodes}
 use Rattle.gx_core.specs.CombiningNodes.{combined}
 use Rattle.gx_core.specs.Ranging.{integer_of_item, range_length, integers_from, range_between, range_of_items}
 use Rattle.gx_core.specs.Casting.{cast_outcome, cast_items, castable_items}
-use Rattle.gx_core.specs.Calling.{views_of, answered, all_argument_texts, argument_by, argument_values, all_argument_values, called_as}
+use Rattle.gx_core.specs.Arguments.{argument_by, arguments_by, argument_values, all_argument_values}
+use Rattle.gx_core.specs.Calling.{views_of, answered, all_argument_texts, called_as}
+use Rattle.gx_core.specs.ItemCalling.{lexical_name, name_of_items, roots_of_items, number_of_items, integer_of_items, string_item, item_answer}
+use Rattle.gx_funcs.specs.declared.item_function.ItemFunction.{ItemFunction}
+use Rattle.gx_funcs.specs.declared.item_function.ItemFunction.TheVariants as item_functions
+use Rattle.gx_funcs.specs.Positions.{from_position, so_many_from, without_position, inserted_before}
 use Rattle.gx_core.proofs.ValueCodes.{AnswersDynamically, values_dynamic}
 use Rattle.gx_core.specs.Paths.{is_node, places_of, stepped, put_in_order}
 use Rattle.gx_core.specs.declared.cases.TypeCase.{TypeCase}
@@ -309,7 +314,7 @@ dynamic_arguments schemas (expected ∷ parameters) (xs ∷ arguments) forest =
 dynamic_arguments schemas [] (xs ∷ arguments) forest = tt
 dynamic_arguments schemas (expected ∷ parameters) [] forest = tt
 
--- ---- functions over strings, and over atomic values
+-- ---- functions over strings, over atomic values and over items
 
 dynamic_argument : (conversion : Conversion) (schemas : SchemaSet) (xs : Items) (forest : Forest) → IsDynamic (argument_by conversion schemas xs forest)
 dynamic_argument Nothing schemas xs forest = tt
@@ -338,15 +343,58 @@ dynamic_answered None forest h = tt
 dynamic_answered (Some (Ok items)) forest h = tt
 dynamic_answered (Some (Err code)) forest h = h
 
-dynamic_called : (schemas : SchemaSet) (function : Function) (texts : Option TextFunction) (over_values : Option ValueFunction) (values : List Items) (forest : Forest)
-    → IsDynamic (called_as texts over_values schemas function values forest)
-dynamic_called schemas function None None values forest = dynamic_call function (map (views_of forest) values) forest
-dynamic_called schemas function None (Some over_values) values forest =
+dynamic_seen : (schemas : SchemaSet) (parameters : List Parameter) (arguments : List Items) (forest : Forest) → IsDynamic (arguments_by schemas parameters arguments forest)
+dynamic_seen schemas [] [] forest = tt
+dynamic_seen schemas (parameter ∷ parameters) (xs ∷ arguments) forest =
+    dynamic_after (argument_by (conversion_of parameter.takes) schemas xs forest)
+    (λ ys left. after (arguments_by schemas parameters arguments left) (λ others last. gives (ys ∷ others) last))
+    (dynamic_argument (conversion_of parameter.takes) schemas xs forest)
+    (λ ys left. dynamic_after (arguments_by schemas parameters arguments left) (λ others last. gives (ys ∷ others) last)
+    (dynamic_seen schemas parameters arguments left) (λ others last. tt))
+dynamic_seen schemas [] (xs ∷ arguments) forest = tt
+dynamic_seen schemas (parameter ∷ parameters) [] forest = tt
+
+dynamic_item_answer : (function : ItemFunction) (arguments : List Items) (forest : Forest) → IsDynamic (item_answer function arguments forest)
+dynamic_item_answer item_functions.Name (xs ∷ []) forest =
+    dynamic_given (name_of_items lexical_name forest xs) (λ t. gives (string_item t) forest) (λ t. tt)
+dynamic_item_answer item_functions.LocalName (xs ∷ []) forest =
+    dynamic_given (name_of_items (λ name. name.local) forest xs) (λ t. gives (string_item t) forest) (λ t. tt)
+dynamic_item_answer item_functions.Root (xs ∷ []) forest = dynamic_given (roots_of_items forest xs) (λ roots. gives roots forest) (λ roots. tt)
+dynamic_item_answer item_functions.Reverse (xs ∷ []) forest = tt
+dynamic_item_answer item_functions.SubsequenceFrom (xs ∷ ys ∷ []) forest =
+    dynamic_given (number_of_items ys) (λ start. gives (from_position start xs) forest) (λ start. tt)
+dynamic_item_answer item_functions.Subsequence (xs ∷ ys ∷ zs ∷ []) forest =
+    dynamic_given (number_of_items ys) (λ start. given (number_of_items zs) (λ count. gives (so_many_from start count xs) forest))
+    (λ start. dynamic_given (number_of_items zs) (λ count. gives (so_many_from start count xs) forest) (λ count. tt))
+dynamic_item_answer item_functions.Remove (xs ∷ ys ∷ []) forest =
+    dynamic_given (integer_of_items ys) (λ position. gives (without_position position xs) forest) (λ position. tt)
+dynamic_item_answer item_functions.InsertBefore (xs ∷ ys ∷ zs ∷ []) forest =
+    dynamic_given (integer_of_items ys) (λ position. gives (inserted_before position zs xs) forest) (λ position. tt)
+dynamic_item_answer item_functions.ZeroOrOne ([] ∷ []) forest = tt
+dynamic_item_answer item_functions.ZeroOrOne ((x ∷ []) ∷ []) forest = tt
+dynamic_item_answer item_functions.ZeroOrOne ((x ∷ y ∷ xs) ∷ []) forest = refl
+dynamic_item_answer item_functions.OneOrMore ([] ∷ []) forest = refl
+dynamic_item_answer item_functions.OneOrMore ((x ∷ xs) ∷ []) forest = tt
+dynamic_item_answer item_functions.ExactlyOne ([] ∷ []) forest = refl
+dynamic_item_answer item_functions.ExactlyOne ((x ∷ []) ∷ []) forest = tt
+dynamic_item_answer item_functions.ExactlyOne ((x ∷ y ∷ xs) ∷ []) forest = refl
+dynamic_item_answer item_functions.DeepEqual (xs ∷ ys ∷ []) forest = tt
+dynamic_item_answer item_functions.Error [] forest = refl
+dynamic_item_answer _ _ forest = tt
+
+dynamic_called : (schemas : SchemaSet) (function : Function) (texts : Option TextFunction) (over_values : Option ValueFunction) (over_items : Option ItemFunction)
+    (values : List Items) (forest : Forest)
+    → IsDynamic (called_as texts over_values over_items schemas function values forest)
+dynamic_called schemas function None None None values forest = dynamic_call function (map (views_of forest) values) forest
+dynamic_called schemas function None None (Some over_items) values forest =
+    dynamic_after (arguments_by schemas (item_parameters_of over_items) values forest) (λ seen left. item_answer over_items seen left)
+    (dynamic_seen schemas (item_parameters_of over_items) values forest) (λ seen left. dynamic_item_answer over_items seen left)
+dynamic_called schemas function None (Some over_values) over_items values forest =
     dynamic_after (all_argument_values schemas (value_parameters_of over_values) values forest)
     (λ found left. given (value_answer over_values found) (λ answer. answered answer left))
     (dynamic_all_values schemas (value_parameters_of over_values) values forest)
     (λ found left. dynamic_answered (value_answer over_values found) left (values_dynamic over_values found))
-dynamic_called schemas function (Some texts) over_values values forest =
+dynamic_called schemas function (Some texts) over_values over_items values forest =
     dynamic_given (all_argument_texts schemas forest values)
     (λ arguments. given (text_answer texts arguments) (λ answer. gives (atom answer ∷ []) forest))
     (λ arguments. dynamic_given (text_answer texts arguments) (λ answer. gives (atom answer ∷ []) forest) (λ answer. tt))
@@ -368,7 +416,7 @@ dynamic_act context k (operators.Cast kind optional) (xs ∷ []) forest = dynami
 dynamic_act context k (operators.Castable kind optional) (xs ∷ []) forest = dynamic_castable context.schemas kind optional xs forest
 dynamic_act context k (operators.Treat kind) (xs ∷ []) forest =
     dynamic_choice (is_instance context.schemas forest kind xs) (gives xs forest) (raises XPDY0050) tt refl
-dynamic_act context k (operators.Call function) values forest = dynamic_called context.schemas function (text_function_of function) (value_function_of function) values forest
+dynamic_act context k (operators.Call function) values forest = dynamic_called context.schemas function (text_function_of function) (value_function_of function) (item_function_of function) values forest
 dynamic_act context k operators.Neg (xs ∷ []) forest = dynamic_on_one xs forest negation_of_item (λ x. dynamic_negation x forest)
 dynamic_act context k (operators.Binary operator) (xs ∷ ys ∷ []) forest = dynamic_binary (class_of operator) xs ys forest
 dynamic_act context k (operators.Construct constructor count) values forest =

@@ -1,25 +1,22 @@
 -- Calls of built-in functions (XQuery 1.0, section 3.1.5).
 use Rattle.std.specs.Prelude.{ℕ, List, [], ◌∷◌, map, Option, None, Some, option_map, Result, Ok, Err}
 use Rattle.gx_base.specs.declared.code.Code.{Code}
-use Rattle.gx_base.specs.declared.type_name.TypeName.TheVariants as names
 use Rattle.gx_facets.specs.declared.Atomic.{Atomic}
 use Rattle.gx_funcs.specs.declared.function.Function.{Function}
 use Rattle.gx_facets.specs.Value.{printed_value}
 use Rattle.gx_types.specs.SchemaSet.{SchemaSet}
 use Rattle.gx_funcs.specs.declared.text_function.TextFunction.{TextFunction}
-use Rattle.gx_funcs.specs.declared.function.Parameter.{Parameter}
-use Rattle.gx_funcs.specs.declared.function.Conversion.{Conversion}
-use Rattle.gx_funcs.specs.declared.function.Conversion.TheVariants.{Nothing, Data, DataAndCast}
 use Rattle.gx_funcs.specs.declared.value_function.ValueFunction.{ValueFunction}
-use Rattle.gx_funcs.specs.Function.{ItemView, atomic_view, node_view, applied, text_function_of, value_function_of, value_parameters_of, conversion_of}
+use Rattle.gx_funcs.specs.declared.item_function.ItemFunction.{ItemFunction}
+use Rattle.gx_funcs.specs.Function.{ItemView, atomic_view, node_view, applied, text_function_of, value_function_of, item_function_of, value_parameters_of}
 use Rattle.gx_funcs.specs.Texts.{text_answer}
 use Rattle.gx_funcs.specs.Values.{value_answer}
 use Rattle.gx_model.specs.Atomization.{atomized}
 use Rattle.gx_model.specs.Forest.{Forest, node_in}
 use Rattle.gx_model.specs.Item.{Item, atom, node, Items, atoms}
 use Rattle.gx_model.specs.TypedValue.{found_string_value}
-use Rattle.gx_core.specs.Comparing.{atoms_among}
-use Rattle.gx_core.specs.Converting.{converted_to}
+use Rattle.gx_core.specs.Arguments.{all_argument_values}
+use Rattle.gx_core.specs.ItemCalling.{item_called}
 use Rattle.gx_core.specs.Outcome.{Outcome, gives, raises, wrong, after, given}
 
 -- an item as a function looks at it; the string value of a node that the forest has not is empty
@@ -58,26 +55,7 @@ abbrev pub text_called : SchemaSet → TextFunction → List Items → Forest �
 text_called schemas function values forest =
     given (all_argument_texts schemas forest values) (λ texts. given (text_answer function texts) (λ answer. gives (atom answer ∷ []) forest))
 
--- ---- functions over atomic values (XQuery 1.0, section 3.1.5)
-
--- an argument as its parameter asks for it
-abbrev pub argument_by : Conversion → SchemaSet → Items → Forest → Outcome Items
-argument_by Nothing schemas xs forest = gives xs forest
-argument_by Data schemas xs forest = given (atomized schemas forest xs) (λ ys. gives ys forest)
-argument_by (DataAndCast kind) schemas xs forest = converted_to (Some (names.Builtin kind)) schemas xs forest
-
--- the atomic values of an argument
-abbrev pub argument_values : Conversion → SchemaSet → Items → Forest → Outcome (List Atomic)
-argument_values conversion schemas xs forest =
-    after (argument_by conversion schemas xs forest) (λ ys left. given (atoms_among ys) (λ values. gives values left))
-
--- arguments from the left; another number of them is a type error
-abbrev pub all_argument_values : SchemaSet → List Parameter → List Items → Forest → Outcome (List (List Atomic))
-all_argument_values schemas [] [] forest = gives [] forest
-all_argument_values schemas (parameter ∷ parameters) (xs ∷ arguments) forest =
-    after (argument_values (conversion_of parameter.takes) schemas xs forest)
-    (λ values left. after (all_argument_values schemas parameters arguments left) (λ others last. gives (values ∷ others) last))
-all_argument_values schemas _ _ forest = wrong
+-- ---- functions over atomic values
 
 abbrev pub value_called : SchemaSet → ValueFunction → List Items → Forest → Outcome Items
 value_called schemas function arguments forest =
@@ -86,11 +64,15 @@ value_called schemas function arguments forest =
 
 -- ---- calls
 
-abbrev pub called_as : Option TextFunction → Option ValueFunction → SchemaSet → Function → List Items → Forest → Outcome Items
-called_as (Some texts) over_values schemas function values forest = text_called schemas texts values forest
-called_as None (Some over_values) schemas function values forest = value_called schemas over_values values forest
-called_as None None schemas function values forest = given (applied function (map (views_of forest) values)) (λ answer. answered answer forest)
+-- a function by its kind: over strings, over atomic values, over items, or one that looks at its arguments as items of one kind
+abbrev pub called_as : Option TextFunction → Option ValueFunction → Option ItemFunction → SchemaSet → Function → List Items → Forest → Outcome Items
+called_as (Some texts) over_values over_items schemas function values forest = text_called schemas texts values forest
+called_as None (Some over_values) over_items schemas function values forest = value_called schemas over_values values forest
+called_as None None (Some over_items) schemas function values forest = item_called schemas over_items values forest
+called_as None None None schemas function values forest =
+    given (applied function (map (views_of forest) values)) (λ answer. answered answer forest)
 
 -- what a function makes of its arguments
 abbrev pub called : SchemaSet → Function → List Items → Forest → Outcome Items
-called schemas function values forest = called_as (text_function_of function) (value_function_of function) schemas function values forest
+called schemas function values forest =
+    called_as (text_function_of function) (value_function_of function) (item_function_of function) schemas function values forest

@@ -14,6 +14,9 @@ pub mod Comparing
 pub mod Ranging
 pub mod Casting
 pub mod Converting
+pub mod Arguments
+pub mod DeepEqual
+pub mod ItemCalling
 pub mod Calling
 pub mod Paths
 pub mod ComparingNodes

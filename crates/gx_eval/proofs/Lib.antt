@@ -16,3 +16,5 @@ pub mod ManySteps
 pub mod MadeTrees
 pub mod ArgumentTexts
 pub mod ValueArguments
+pub mod ItemAnswers
+pub mod ItemArguments

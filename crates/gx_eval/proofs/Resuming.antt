@@ -8,7 +8,8 @@ use Rattle.gx_funcs.specs.declared.function.Function.{Function}
 use Rattle.gx_funcs.specs.declared.function.Function.TheVariants as functions
 use Rattle.gx_funcs.specs.declared.text_function.TextFunction.{TextFunction}
 use Rattle.gx_funcs.specs.declared.value_function.ValueFunction.{ValueFunction}
-use Rattle.gx_funcs.specs.Function.{ItemView, text_function_of, value_function_of, applied as applied_function}
+use Rattle.gx_funcs.specs.declared.item_function.ItemFunction.{ItemFunction}
+use Rattle.gx_funcs.specs.Function.{ItemView, text_function_of, value_function_of, item_function_of, applied as applied_function}
 use Rattle.gx_model.specs.Forest.{Forest}
 use Rattle.gx_model.specs.Item.{Item, Items}
 use Rattle.gx_core.specs.declared.expression.BinaryOp.{BinaryOp}
@@ -238,13 +239,15 @@ no_second functions.True a b others = refl
 no_second functions.False a b others = refl
 no_second _ a b others = refl
 
--- a function that is over neither strings nor atomic values has one parameter at most
-pub too_many : (s : SchemaSet) (function : Function) (forest : Forest) (all : List Items) → text_function_of function ≡ None → value_function_of function ≡ None → 2 ≤ length all → called s function all forest ≡ wrong
-too_many s function forest [] e f h = absurd (omega (arith, h))
-too_many s function forest (x ∷ []) e f h = absurd (omega (arith, h))
-too_many s function forest (x ∷ y ∷ all) e f h =
-    ap (λ (o : Option TextFunction). called_as o (value_function_of function) s function (x ∷ y ∷ all) forest) e
-    ∙ ap (λ (o : Option ValueFunction). called_as None o s function (x ∷ y ∷ all) forest) f
+-- a function that is over neither strings nor atomic values nor items has one parameter at most
+pub too_many : (s : SchemaSet) (function : Function) (forest : Forest) (all : List Items) → text_function_of function ≡ None → value_function_of function ≡ None → item_function_of function ≡ None → 2 ≤ length all
+    → called s function all forest ≡ wrong
+too_many s function forest [] e f g h = absurd (omega (arith, h))
+too_many s function forest (x ∷ []) e f g h = absurd (omega (arith, h))
+too_many s function forest (x ∷ y ∷ all) e f g h =
+    ap (λ (o : Option TextFunction). called_as o (value_function_of function) (item_function_of function) s function (x ∷ y ∷ all) forest) e
+    ∙ ap (λ (o : Option ValueFunction). called_as None o (item_function_of function) s function (x ∷ y ∷ all) forest) f
+    ∙ ap (λ (o : Option ItemFunction). called_as None None o s function (x ∷ y ∷ all) forest) g
     ∙ ap (λ (found : Option (Result (List Atomic) Code)). given found (λ answer. answered answer forest)) (no_second function (views_of forest x) (views_of forest y) (map (views_of forest) all))
 
 -- what a function answers of operands goes behind the values below them

@@ -11,7 +11,8 @@ use Rattle.gx_funcs.specs.Function.{conversion_of, value_parameters_of}
 use Rattle.gx_funcs.specs.Values.{value_answer}
 use Rattle.gx_model.specs.Forest.{Forest}
 use Rattle.gx_model.specs.Item.{Items}
-use Rattle.gx_core.specs.Calling.{argument_values, all_argument_values, value_called, answered}
+use Rattle.gx_core.specs.Arguments.{argument_values, all_argument_values}
+use Rattle.gx_core.specs.Calling.{value_called, answered}
 use Rattle.gx_core.specs.Comparing.{atoms_among}
 use Rattle.gx_core.specs.Outcome.{Outcome, gives, wrong, after, given}
 use Rattle.gx_eval.specs.declared.failure.Failure.{Failure}
@@ -120,13 +121,13 @@ pub no_parameter : (s : SchemaSet) (ps : List Parameter) (number : ℕ) (argumen
     → slice_get ps number ≡ None → arguments ≡ xs ∷ others → after (all_argument_values s (drop number ps) arguments forest) next ≡ wrong
 no_parameter s ps number arguments xs others forest next e h = let none = no_parameter_left ps number e in λ i. after (all_argument_values s (none i) (h i) forest) next
 
-some_left : (ps : List Parameter) (number : ℕ) → number ≤ length ps → (number ≡ length ps → ⊥) → (p : Parameter) × (rest : List Parameter) × (drop number ps ≡ p ∷ rest)
+pub some_left : (ps : List Parameter) (number : ℕ) → number ≤ length ps → (number ≡ length ps → ⊥) → (p : Parameter) × (rest : List Parameter) × (drop number ps ≡ p ∷ rest)
 some_left [] zero l n = absurd (n refl)
 some_left [] (suc number) l n = absurd (omega (arith, l))
 some_left (p ∷ ps) zero l n = (p, ps, refl)
 some_left (p ∷ ps) (suc number) l n = some_left ps number (omega (arith, l)) (λ e. n (ap suc e))
 
-none_left : (ps : List Parameter) (number : ℕ) → number ≡ length ps → drop number ps ≡ []
+pub none_left : (ps : List Parameter) (number : ℕ) → number ≡ length ps → drop number ps ≡ []
 none_left [] zero e = refl
 none_left [] (suc number) e = refl
 none_left (p ∷ ps) zero e = absurd (cc)

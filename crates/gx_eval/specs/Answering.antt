@@ -14,11 +14,12 @@ use Rattle.gx_core.specs.Calling.{answered}
 use Rattle.gx_core.specs.Comparing.{compared_items}
 use Rattle.gx_core.specs.ComparingNodes.{compared_nodes}
 use Rattle.gx_core.specs.Ranging.{integers_from, range_of_items}
+use Rattle.gx_store.specs.Items.{items_in}
 use Rattle.gx_store.specs.Places.{node_places}
 use Rattle.gx_eval.specs.declared.failure.Failure.{Failure}
 use Rattle.gx_eval.specs.declared.failure.Failure.TheVariants.{Raised, Memory}
 use Rattle.gx_eval.specs.declared.answer.Answer.{Answer}
-use Rattle.gx_eval.specs.declared.answer.Answer.TheVariants.{Nothing, One, Integers, NodeSequence, Values}
+use Rattle.gx_eval.specs.declared.answer.Answer.TheVariants.{Nothing, One, Integers, NodeSequence, Values, Items as ItemSequence}
 use Rattle.gx_eval.specs.declared.answer.Paired.{Paired}
 use Rattle.gx_eval.specs.declared.answer.Paired.TheVariants.{Arithmetic, Value, NodeComparison, Range}
 
@@ -28,6 +29,7 @@ answer_items forest (One a) = atom a ∷ []
 answer_items forest (Integers first count) = atoms (integers_from first count)
 answer_items forest (NodeSequence nodes) = map node (node_places forest nodes.items)
 answer_items forest (Values values) = atoms values.items
+answer_items forest (ItemSequence items) = items_in forest items.items
 
 -- each of so many integers is within the limits of xs:integer
 abbrev pub IntegersFit : (first : ℤ) → (count : ℕ) → Type 0

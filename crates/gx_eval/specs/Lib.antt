@@ -13,3 +13,4 @@ pub mod BuildFailures
 pub mod Converting
 pub mod MadeNodes
 pub mod Growing
+pub mod ItemAnswers

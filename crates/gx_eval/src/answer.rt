@@ -17,7 +17,7 @@ use crate::arithmetic::computed;
 use crate::comparison::{compared, generally_compared};
 use crate::failure::Failure;
 use crate::nodes::{append_nodes, nodes_compare};
-use crate::operand::{push_atom, put_atoms};
+use crate::operand::{move_behind, push_atom, put_atoms};
 use crate::range::{integer_of, put_integers, range_count};
 use crate::sets::combined;
 use gx_atomic::Op;
@@ -30,7 +30,7 @@ use gx_store::number::NodeId;
 use gx_store::store::Store;
 use std::alloc::{AllocError, Global};
 
-// Nothing, one atomic value, so many integers from the first on, nodes, or atomic values.
+// Nothing, one atomic value, so many integers from the first on, nodes, atomic values, or items.
 #[derive(Drop)]
 pub(crate) enum Answer {
     Nothing,
@@ -38,6 +38,7 @@ pub(crate) enum Answer {
     Integers(i128, u32),
     NodeSequence(Vec<NodeId>),
     Values(Vec<Atomic>),
+    Items(Vec<Item>),
 }
 
 // An operation on one value of each of two operands.
@@ -173,5 +174,6 @@ pub(crate) fn put(answer: Answer, values: &mut Vec<Item>) -> Result<(), AllocErr
         Answer::Integers(first, count) => put_integers(first, count, values),
         Answer::NodeSequence(nodes) => append_nodes(nodes.as_slice(), values),
         Answer::Values(atoms) => put_atoms(atoms.as_slice(), values),
+        Answer::Items(items) => move_behind(items, values),
     }
 }

@@ -22,6 +22,7 @@ use crate::answer::{Answer, put};
 use crate::constructing::take_operands;
 use crate::evaluation::{Evaluation, Pending};
 use crate::failure::Failure;
+use crate::item_calling::{called_with_item, called_with_items, failure_of_none};
 use crate::marking::mark_parts;
 use crate::nodes::atomized;
 use crate::single::Single;
@@ -44,10 +45,15 @@ pub(crate) fn called_with_none(alloc: Global, function: Function) -> Result<Answ
     ensures fits { IfOk result (λ r. AnswerFits r) }
     ensures failed { (schemas : SchemaSet) (forest : PlainForest) → IfErr result (λ e. FailsSo e (called schemas function [] forest)) }
 {
-    match (function.text_function(), function.value_function()) {
-        (Some(texts), _) => text_answer(alloc, texts, &[]),
-        (None, Some(_)) => Err(Failure::Wrong),
-        (None, None) => match apply_to_none(function) {
+    match (
+        function.text_function(),
+        function.value_function(),
+        function.item_function(),
+    ) {
+        (Some(texts), _, _) => text_answer(alloc, texts, &[]),
+        (None, Some(_), _) => Err(Failure::Wrong),
+        (None, None, Some(over_items)) => Err(failure_of_none(over_items)),
+        (None, None, None) => match apply_to_none(function) {
             Some(answer) => Ok(Answer::One(answer)),
             None => Err(Failure::Wrong),
         },
@@ -92,6 +98,7 @@ pub(crate) fn called_with_one(
             over_values,
             argument,
         ),
+        Function::OfItems(over_items) => called_with_item(alloc, store, over_items, argument),
     }
 }
 
@@ -114,7 +121,7 @@ fn called_with(
     }
 }
 
-// What a function answers of several arguments: functions over strings and over atomic values alone have so many.
+// What a function answers of several arguments: functions over strings, over atomic values and over items alone have so many.
 fn called_with_many(
     alloc: Global,
     schemas: &Schemas,
@@ -127,16 +134,23 @@ fn called_with_many(
     ensures fits { IfOk result (λ r. AnswerFits r) }
     ensures failed { (later : PlainForest) → Extends store.now later → IfErr result (λ e. FailsSo e (called schemas.now function (parts_in later operands.now) store.now)) }
 {
-    match (function.text_function(), function.value_function()) {
-        (Some(texts), _) => called_with_texts(alloc, schemas, store, texts, operands),
-        (None, Some(over_values)) => called_with_values(
+    match (
+        function.text_function(),
+        function.value_function(),
+        function.item_function(),
+    ) {
+        (Some(texts), _, _) => called_with_texts(alloc, schemas, store, texts, operands),
+        (None, Some(over_values), _) => called_with_values(
             alloc,
             schemas,
             store,
             over_values,
             operands,
         ),
-        (None, None) => Err(Failure::Wrong),
+        (None, None, Some(over_items)) => called_with_items(
+            alloc, schemas, store, over_items, operands,
+        ),
+        (None, None, None) => Err(Failure::Wrong),
     }
 }
 

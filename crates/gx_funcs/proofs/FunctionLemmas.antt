@@ -9,6 +9,7 @@ use Rattle.gx_funcs.specs.declared.function.Function.TheVariants as functions
 use Rattle.gx_funcs.specs.declared.function.Parameter.{Parameter}
 use Rattle.gx_funcs.specs.declared.text_function.TextFunction.TheVariants as texts
 use Rattle.gx_funcs.specs.declared.value_function.ValueFunction.TheVariants as values
+use Rattle.gx_funcs.specs.declared.item_function.ItemFunction.TheVariants as items
 use Rattle.gx_funcs.specs.Function.{all_functions, function_name, arity_of, is_of_name, first_named, function_named, concat_named, found_or, value_at_most, IsInTable}
 use Rattle.gx_funcs.specs.Laws.{FunctionsAreFoundByName}
 
@@ -82,6 +83,19 @@ found_by_name (functions.OfValues values.CodepointsToString) h = refl
 found_by_name (functions.OfValues values.StringToCodepoints) h = refl
 found_by_name (functions.OfValues values.DistinctValues) h = refl
 found_by_name (functions.OfValues values.IndexOf) h = refl
+found_by_name (functions.OfItems items.Name) h = refl
+found_by_name (functions.OfItems items.LocalName) h = refl
+found_by_name (functions.OfItems items.Root) h = refl
+found_by_name (functions.OfItems items.Reverse) h = refl
+found_by_name (functions.OfItems items.SubsequenceFrom) h = refl
+found_by_name (functions.OfItems items.Subsequence) h = refl
+found_by_name (functions.OfItems items.Remove) h = refl
+found_by_name (functions.OfItems items.InsertBefore) h = refl
+found_by_name (functions.OfItems items.ZeroOrOne) h = refl
+found_by_name (functions.OfItems items.OneOrMore) h = refl
+found_by_name (functions.OfItems items.ExactlyOne) h = refl
+found_by_name (functions.OfItems items.DeepEqual) h = refl
+found_by_name (functions.OfItems items.Error) h = refl
 found_by_name functions.True h = refl
 found_by_name functions.False h = refl
 found_by_name functions.Boolean h = refl

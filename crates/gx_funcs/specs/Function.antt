@@ -21,6 +21,8 @@ use Rattle.gx_funcs.specs.declared.text_function.TextFunction.{TextFunction}
 use Rattle.gx_funcs.specs.declared.text_function.TextFunction.TheVariants as texts
 use Rattle.gx_funcs.specs.declared.value_function.ValueFunction.{ValueFunction}
 use Rattle.gx_funcs.specs.declared.value_function.ValueFunction.TheVariants as values
+use Rattle.gx_funcs.specs.declared.item_function.ItemFunction.{ItemFunction}
+use Rattle.gx_funcs.specs.declared.item_function.ItemFunction.TheVariants as items
 
 -- all functions but `concat`, which there is for each number of arguments from two on
 abbrev pub all_functions : List Function
@@ -35,7 +37,11 @@ all_functions =
     ∷ functions.OfValues values.SubstringFrom ∷ functions.OfValues values.Substring ∷ functions.OfValues values.Compare
     ∷ functions.OfValues values.Normalize ∷ functions.OfValues values.NormalizeTo
     ∷ functions.OfValues values.CodepointsToString ∷ functions.OfValues values.StringToCodepoints
-    ∷ functions.OfValues values.DistinctValues ∷ functions.OfValues values.IndexOf ∷ []
+    ∷ functions.OfValues values.DistinctValues ∷ functions.OfValues values.IndexOf
+    ∷ functions.OfItems items.Name ∷ functions.OfItems items.LocalName ∷ functions.OfItems items.Root ∷ functions.OfItems items.Reverse
+    ∷ functions.OfItems items.SubsequenceFrom ∷ functions.OfItems items.Subsequence ∷ functions.OfItems items.Remove ∷ functions.OfItems items.InsertBefore
+    ∷ functions.OfItems items.ZeroOrOne ∷ functions.OfItems items.OneOrMore ∷ functions.OfItems items.ExactlyOne
+    ∷ functions.OfItems items.DeepEqual ∷ functions.OfItems items.Error ∷ []
 
 -- ---- names
 
@@ -70,6 +76,21 @@ value_function_name values.StringToCodepoints = codes "string-to-codepoints"
 value_function_name values.DistinctValues = codes "distinct-values"
 value_function_name values.IndexOf = codes "index-of"
 
+abbrev pub item_function_name : ItemFunction → List ℕ
+item_function_name items.Name = codes "name"
+item_function_name items.LocalName = codes "local-name"
+item_function_name items.Root = codes "root"
+item_function_name items.Reverse = codes "reverse"
+item_function_name items.SubsequenceFrom = codes "subsequence"
+item_function_name items.Subsequence = codes "subsequence"
+item_function_name items.Remove = codes "remove"
+item_function_name items.InsertBefore = codes "insert-before"
+item_function_name items.ZeroOrOne = codes "zero-or-one"
+item_function_name items.OneOrMore = codes "one-or-more"
+item_function_name items.ExactlyOne = codes "exactly-one"
+item_function_name items.DeepEqual = codes "deep-equal"
+item_function_name items.Error = codes "error"
+
 -- the local name of a function
 abbrev pub function_name : Function → List ℕ
 function_name functions.True = codes "true"
@@ -85,6 +106,7 @@ function_name functions.Position = codes "position"
 function_name functions.Last = codes "last"
 function_name (functions.OfTexts function) = text_function_name function
 function_name (functions.OfValues function) = value_function_name function
+function_name (functions.OfItems function) = item_function_name function
 
 -- ---- parameters
 
@@ -133,12 +155,21 @@ any_values = record { takes = parameters.Values; code = XPTY0004 }
 abbrev pub one_value : Parameter
 one_value = record { takes = parameters.OneValue; code = XPTY0004 }
 
+-- at most one node, and one integer, as which an untyped value is cast
+abbrev pub node_at_most : Parameter
+node_at_most = record { takes = parameters.OptionalNode; code = XPTY0004 }
+
+abbrev pub one_integer : Parameter
+one_integer = record { takes = parameters.OneInteger; code = XPTY0004 }
+
 -- how an argument is converted before its parameter takes it (XQuery 1.0, section 3.1.5)
 abbrev pub conversion_of : ParameterType → Conversion
 conversion_of parameters.Items = conversions.Nothing
 conversion_of parameters.OptionalItem = conversions.Nothing
 conversion_of parameters.TruthValue = conversions.Nothing
+conversion_of parameters.OptionalNode = conversions.Nothing
 conversion_of parameters.Integers = conversions.DataAndCast types.Integer
+conversion_of parameters.OneInteger = conversions.DataAndCast types.Integer
 conversion_of takes = conversions.Data
 
 abbrev pub text_parameters_of : TextFunction → List Parameter
@@ -172,6 +203,21 @@ value_parameters_of values.StringToCodepoints = string_at_most ∷ []
 value_parameters_of values.DistinctValues = any_values ∷ []
 value_parameters_of values.IndexOf = any_values ∷ one_value ∷ []
 
+abbrev pub item_parameters_of : ItemFunction → List Parameter
+item_parameters_of items.Name = node_at_most ∷ []
+item_parameters_of items.LocalName = node_at_most ∷ []
+item_parameters_of items.Root = node_at_most ∷ []
+item_parameters_of items.Reverse = any_items ∷ []
+item_parameters_of items.SubsequenceFrom = any_items ∷ one_number ∷ []
+item_parameters_of items.Subsequence = any_items ∷ one_number ∷ one_number ∷ []
+item_parameters_of items.Remove = any_items ∷ one_integer ∷ []
+item_parameters_of items.InsertBefore = any_items ∷ one_integer ∷ any_items ∷ []
+item_parameters_of items.ZeroOrOne = any_items ∷ []
+item_parameters_of items.OneOrMore = any_items ∷ []
+item_parameters_of items.ExactlyOne = any_items ∷ []
+item_parameters_of items.DeepEqual = any_items ∷ any_items ∷ []
+item_parameters_of items.Error = []
+
 abbrev pub parameters_of : Function → List Parameter
 parameters_of functions.True = []
 parameters_of functions.False = []
@@ -186,6 +232,7 @@ parameters_of functions.Position = []
 parameters_of functions.Last = []
 parameters_of (functions.OfTexts function) = text_parameters_of function
 parameters_of (functions.OfValues function) = value_parameters_of function
+parameters_of (functions.OfItems function) = item_parameters_of function
 
 -- how many arguments a function has
 abbrev pub arity_of : Function → ℕ
@@ -247,6 +294,7 @@ answer_type_of functions.Position = Some types.Integer
 answer_type_of functions.Last = Some types.Integer
 answer_type_of (functions.OfTexts function) = Some (text_answer_type_of function)
 answer_type_of (functions.OfValues function) = None
+answer_type_of (functions.OfItems function) = None
 
 -- ---- values
 
@@ -300,6 +348,11 @@ one_answer a = Ok (a ∷ [])
 abbrev pub value_function_of : Function → Option ValueFunction
 value_function_of (functions.OfValues function) = Some function
 value_function_of function = None
+
+-- the function over items that a function is, if it is one
+abbrev pub item_function_of : Function → Option ItemFunction
+item_function_of (functions.OfItems function) = Some function
+item_function_of function = None
 
 -- what a function answers of its arguments, a value or the code of a dynamic error; nothing where their number is another one
 -- or they are not of the types of its parameters, of `data`, which is an operator of its own, of `position` and `last`, which are variables,

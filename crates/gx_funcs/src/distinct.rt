@@ -1,7 +1,7 @@
-// Values that are equal (Functions and Operators, sections 15.1.3 and 15.1.6).
+// Values that are equal (Functions and Operators, sections 15.1.3, 15.1.6 and 15.3.1).
 
 ghost use Rattle.std.specs.Prelude.{◌≡◌, ◌∷◌, [], IfOk};
-ghost use Rattle.gx_funcs.specs.Distinct.{distinct_values, equal_positions};
+ghost use Rattle.gx_funcs.specs.Distinct.{are_equal_values, distinct_values, equal_positions};
 ghost use Rattle.gx_funcs.specs.Values.{AnswersCall, answers, value_answer};
 ghost use Rattle.gx_funcs.specs.declared.value_function.ValueFunction.TheVariants as functions;
 
@@ -12,6 +12,13 @@ use gx_atomic::{Op, key};
 use gx_facets::Atomic;
 use std::alloc::{AllocError, Global};
 use std::collections::HashSet;
+
+/// Whether two values are equal; values that cannot be compared are not (section 15.3.1).
+pub fn are_equal_values(a: &Atomic, b: &Atomic) -> bool
+    ensures { result ≡ are_equal_values a.now b.now }
+{
+    compares(Op::Eq, a, b)
+}
 
 /// The values of which none before them is equal (section 15.1.6).
 pub(crate) fn distinct_values(alloc: Global, values: &[Atomic]) -> Result<Vec<Atomic>, CallError>
@@ -58,7 +65,7 @@ fn equal_positions(
 {
     let mut positions = Vec::new(alloc);
     for (index, value) in values.iter().enumerate() {
-        if compares(Op::Eq, value, searched) {
+        if are_equal_values(value, searched) {
             positions.push(integer_atom(index as i128 + 1))?;
         }
     }

@@ -2,8 +2,9 @@
 
 ghost use Rattle.std.specs.Prelude.{◌≡◌, [], ℕ, List, encode_utf8_all, Some, None, MatchOption, slice_get, length};
 ghost use Rattle.gx_funcs.specs.Function.{applied, arity_of, conversion_of, concat_named, first_named, all_functions, function_name, function_named, integer_atom, is_of_name, one_answer, parameters_of, answer_type_of, string_atom, truth_atom};
-ghost use Rattle.gx_funcs.specs.Function.{text_function_name, text_function_of, text_parameters_of, text_answer_type_of, value_function_of};
+ghost use Rattle.gx_funcs.specs.Function.{text_function_name, text_function_of, text_parameters_of, text_answer_type_of, value_function_of, item_function_of};
 
+use crate::item_function::ItemFunction;
 use crate::text_function::TextFunction;
 use crate::value_function::ValueFunction;
 use gx_base::code::Code;
@@ -42,6 +43,8 @@ pub enum Function {
     OfTexts(TextFunction),
     /// A function over atomic values.
     OfValues(ValueFunction),
+    /// A function over items.
+    OfItems(ItemFunction),
 }
 
 /// What the values of a parameter are.
@@ -73,6 +76,10 @@ pub enum ParameterType {
     Values,
     /// `xs:anyAtomicType`, likewise.
     OneValue,
+    /// `node()?`.
+    OptionalNode,
+    /// `xs:integer`: the argument is atomized, and an untyped value is cast.
+    OneInteger,
 }
 
 /// How an argument is converted before its parameter takes it (XQuery 1.0, section 3.1.5).
@@ -92,9 +99,13 @@ impl ParameterType {
         ensures { result ≡ conversion_of self }
     {
         match self {
-            ParameterType::Items | ParameterType::OptionalItem | ParameterType::TruthValue =>
-                Conversion::Nothing,
-            ParameterType::Integers => Conversion::DataAndCast(Builtin::Integer),
+            ParameterType::Items
+            | ParameterType::OptionalItem
+            | ParameterType::TruthValue
+            | ParameterType::OptionalNode => Conversion::Nothing,
+            ParameterType::Integers | ParameterType::OneInteger => Conversion::DataAndCast(
+                Builtin::Integer,
+            ),
             _ => Conversion::Data,
         }
     }
@@ -108,7 +119,7 @@ pub struct Parameter {
 }
 
 // All functions but `concat`, each once.
-const FUNCTIONS: [Function; 37] = [
+const FUNCTIONS: [Function; 50] = [
     Function::True,
     Function::False,
     Function::Boolean,
@@ -146,9 +157,22 @@ const FUNCTIONS: [Function; 37] = [
     Function::OfValues(ValueFunction::StringToCodepoints),
     Function::OfValues(ValueFunction::DistinctValues),
     Function::OfValues(ValueFunction::IndexOf),
+    Function::OfItems(ItemFunction::Name),
+    Function::OfItems(ItemFunction::LocalName),
+    Function::OfItems(ItemFunction::Root),
+    Function::OfItems(ItemFunction::Reverse),
+    Function::OfItems(ItemFunction::SubsequenceFrom),
+    Function::OfItems(ItemFunction::Subsequence),
+    Function::OfItems(ItemFunction::Remove),
+    Function::OfItems(ItemFunction::InsertBefore),
+    Function::OfItems(ItemFunction::ZeroOrOne),
+    Function::OfItems(ItemFunction::OneOrMore),
+    Function::OfItems(ItemFunction::ExactlyOne),
+    Function::OfItems(ItemFunction::DeepEqual),
+    Function::OfItems(ItemFunction::Error),
 ];
 
-const ANY_ITEMS: Parameter = Parameter {
+pub(crate) const ANY_ITEMS: Parameter = Parameter {
     takes: ParameterType::Items,
     code: Code::XPTY0004,
 };
@@ -210,6 +234,16 @@ pub(crate) const ANY_VALUES: Parameter = Parameter {
 
 pub(crate) const ONE_VALUE: Parameter = Parameter {
     takes: ParameterType::OneValue,
+    code: Code::XPTY0004,
+};
+
+pub(crate) const NODE_AT_MOST: Parameter = Parameter {
+    takes: ParameterType::OptionalNode,
+    code: Code::XPTY0004,
+};
+
+pub(crate) const ONE_INTEGER: Parameter = Parameter {
+    takes: ParameterType::OneInteger,
     code: Code::XPTY0004,
 };
 
@@ -308,6 +342,7 @@ impl Function {
             Function::Last => "last",
             Function::OfTexts(function) => function.name(),
             Function::OfValues(function) => function.name(),
+            Function::OfItems(function) => function.name(),
         }
     }
 
@@ -324,6 +359,7 @@ impl Function {
             Function::String => [ONE_ITEM_AT_MOST].get(index).copied(),
             Function::OfTexts(function) => function.parameter(index),
             Function::OfValues(function) => function.parameter(index),
+            Function::OfItems(function) => function.parameter(index),
         }
     }
 
@@ -342,6 +378,7 @@ impl Function {
             | Function::String => 1,
             Function::OfTexts(function) => function.arity(),
             Function::OfValues(function) => function.arity(),
+            Function::OfItems(function) => function.arity(),
         }
     }
 
@@ -365,6 +402,16 @@ impl Function {
         }
     }
 
+    /// The function over items that it is, if it is one.
+    pub fn item_function(self) -> Option<ItemFunction>
+        ensures { result ≡ item_function_of self }
+    {
+        match self {
+            Function::OfItems(function) => Some(function),
+            _ => None,
+        }
+    }
+
     /// The type of the one atomic value that it answers; none of `data` and of functions over atomic values, whose answers are of types that
     /// their arguments give.
     pub fn result(self) -> Option<Builtin>
@@ -380,7 +427,7 @@ impl Function {
             Function::Count | Function::Position | Function::Last => Some(Builtin::Integer),
             Function::String => Some(Builtin::Str),
             Function::OfTexts(function) => Some(function.result()),
-            Function::Data | Function::OfValues(_) => None,
+            Function::Data | Function::OfValues(_) | Function::OfItems(_) => None,
         }
     }
 }

@@ -1,11 +1,13 @@
 //! The built-in functions: their names, their parameters, the types of their results, and their values.
 #![tactic(auto)]
 
-mod distinct;
+pub mod distinct;
 pub mod function;
+pub mod item_function;
 pub mod laws;
 mod normal_forms;
 pub mod numbers;
+pub mod positions;
 mod strings;
 pub mod text_function;
 pub mod texts;

@@ -38,8 +38,8 @@ pub fn fault_code(fault: NumFault) -> Code
     }
 }
 
-// The number that a value is, if it is one.
-pub(crate) fn number_of(value: &Atomic) -> Option<Number>
+/// The number that a value is, if it is one.
+pub fn number_of(value: &Atomic) -> Option<Number>
     ensures { result ≡ number_of_value value.now.value }
 {
     match &value.value {

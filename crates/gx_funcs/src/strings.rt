@@ -1,8 +1,8 @@
 // Functions that take strings apart and compare them (Functions and Operators, sections 7.2, 7.3.2 and 7.4.3).
 
-ghost use Rattle.std.specs.Prelude.{◌≡◌, ◌∷◌, [], min, drop, take, Some, Ok, IfOk, MatchResult, option_map};
+ghost use Rattle.std.specs.Prelude.{◌≡◌, ◌∷◌, [], drop, take, Some, Ok, IfOk, MatchResult, option_map};
 ghost use Rattle.std.specs.Str.{chars};
-ghost use Rattle.gx_funcs.specs.Positions.{from_position, so_many_from, positions_before};
+ghost use Rattle.gx_funcs.specs.Positions.{from_position, so_many_from};
 ghost use Rattle.gx_funcs.specs.Strings.{sign_of_order, compared_texts, codepoints_of, character_with_code, text_of_codepoints};
 ghost use Rattle.gx_funcs.specs.Values.{AnswersCall, FailsCall, answers, string_or_empty, one_number_of, printed_values, compared, integer_of_value, integers_of_values, string_answer, value_answer};
 ghost use Rattle.gx_funcs.specs.declared.value_function.ValueFunction.TheVariants as functions;
@@ -10,7 +10,7 @@ ghost use Rattle.gx_funcs.specs.declared.value_function.ValueFunction.TheVariant
 use crate::function::{integer_atom, string_atom};
 use crate::numbers::number_of;
 use crate::values::{CallError, one_value};
-use crate::whole::nearest_whole;
+use crate::whole::{nearest_whole, positions_before};
 use gx_base::characters::{is_char, next_character};
 use gx_base::code::Code;
 use gx_base::text::Text;
@@ -106,17 +106,6 @@ fn so_many_from(
     let skipped = positions_before(least, text.len());
     let ended = positions_before(limit, text.len());
     first_characters(alloc, behind(text, skipped), ended.saturating_sub(skipped))
-}
-
-// How many positions stand before one, but no more than so many.
-fn positions_before(position: i128, most: usize) -> usize
-    ensures { result ≡ min (positions_before position) most }
-{
-    if position < 1 {
-        0
-    } else {
-        usize::try_from(position - 1).unwrap_or(most).min(most)
-    }
 }
 
 // What stands behind so many characters.

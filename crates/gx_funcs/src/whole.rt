@@ -1,8 +1,9 @@
-// The whole number that is nearest to a number.
+// Whole numbers as positions.
 
-ghost use Rattle.std.specs.Prelude.{◌≡◌, int_lt, pos};
+ghost use Rattle.std.specs.Prelude.{◌≡◌, int_lt, min, pos};
 ghost use Rattle.gx_num.specs.Number.{units_of};
 ghost use Rattle.gx_num.specs.Arithmetic.{exact_round, truncated};
+ghost use Rattle.gx_funcs.specs.Positions.{positions_before};
 
 use gx_num::{Number, compare, round, to_int};
 use std::cmp::Ordering;
@@ -25,4 +26,15 @@ fn is_negative(a: &Number) -> bool
     ensures { result ≡ int_lt (units_of a.now) (pos 0) }
 {
     compare(*a, Number::int(0)) == Ordering::Less
+}
+
+// How many positions stand before one, but no more than so many.
+pub(crate) fn positions_before(position: i128, most: usize) -> usize
+    ensures { result ≡ min (positions_before position) most }
+{
+    if position < 1 {
+        0
+    } else {
+        usize::try_from(position - 1).unwrap_or(most).min(most)
+    }
 }

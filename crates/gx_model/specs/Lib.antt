@@ -3,6 +3,8 @@ pub mod Item
 pub mod ItemView
 pub mod Belongs
 pub mod Growth
+pub mod Roots
+pub mod DeepEqual
 pub mod Location
 pub mod DocumentOrder
 pub mod NodeOrder

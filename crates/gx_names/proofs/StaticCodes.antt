@@ -48,7 +48,8 @@ use Rattle.gx_names_scope.specs.StartTags.{is_xmlns, declared_prefix, declares_n
 use Rattle.gx_names_scope.specs.TreeCounts.{count_trees}
 use Rattle.gx_names_types.specs.TypeNames.{kind_refusals, uri_refusals, tested_element_refusals, tested_attribute_refusals, element_test_refusals, attribute_test_refusals, declared_refusals, test_refusals, item_refusals, type_refusals, written_type_refusals, is_any_atomic, target_refusals}
 use Rattle.gx_names_types.specs.Steps.{axis_of_step, node_name, name_refusals, node_test_refusals}
-use Rattle.gx_names_trees.specs.TreeRefusals.{AttributeNames, called_construct, binder_refusals, optional_refusals, same_variable, position_refusals, bound_refusals, case_refusals, attribute_refusals, attribute_names_with, direct_attribute_refusals, use_refusals, call_refusals, tree_refusals, form_refusals, trees_refusals, bindings_refusals, clauses_refusals, keys_refusals, cases_refusals, attributes_refusals, attribute_parts_refusals, parts_refusals}
+use Rattle.gx_names_trees.specs.Calls.{called_construct}
+use Rattle.gx_names_trees.specs.TreeRefusals.{AttributeNames, binder_refusals, optional_refusals, same_variable, position_refusals, bound_refusals, case_refusals, attribute_refusals, attribute_names_with, direct_attribute_refusals, use_refusals, call_refusals, tree_refusals, form_refusals, trees_refusals, bindings_refusals, clauses_refusals, keys_refusals, cases_refusals, attributes_refusals, attribute_parts_refusals, parts_refusals}
 use Rattle.gx_names_uses.specs.Uses.{tree_uses}
 use Rattle.gx_names_uses.specs.Reaching.{Bodies, calls_are_settled}
 use Rattle.gx_names.specs.Laws.{IsOfStaticCode, NamesAreRefusedWithStaticCodes}

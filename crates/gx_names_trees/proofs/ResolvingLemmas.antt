@@ -11,7 +11,8 @@ use Rattle.gx_names_scope.specs.Refused.{IsFirstRefusal}
 use Rattle.gx_names_scope.specs.Environment.{Environment}
 use Rattle.gx_names_scope.specs.TreeCounts.{count_trees}
 use Rattle.gx_names_trees.specs.TreeRefusals.{call_refusals, form_refusals, trees_refusals}
-use Rattle.gx_names_trees.specs.TreeResolution.{call_resolved, form_resolved, trees_resolved}
+use Rattle.gx_names_trees.specs.TreeResolution.{call_resolved, call_over, form_resolved, trees_resolved}
+use Rattle.gx_names_trees.specs.Calls.{context_argument}
 use Rattle.gx_resolved.specs.ResolvedTree.{ResolvedTree, ResolvedTrees, resolved_at, no_resolved, a_resolved, one_resolved, and_parts}
 use Rattle.gx_resolved.specs.ResolvedView.{resolved_parts}
 use Rattle.gx_names_scope.proofs.CountLemmas.{counted}
@@ -45,10 +46,15 @@ adopted_in_turn (a_resolved first others) parts place construct outer =
     adopted_in_turn others (and_part parts first) place construct outer
     ∙ ap (λ (ps : ResolvedTrees). resolved_at place construct ps ∷ outer) (one_behind parts first others)
 
+-- the parts of a tree that was opened with some
+all_closed_behind : (trees parts : ResolvedTrees) (place : Place) (construct : Construct) (outer : List ResolvedTree)
+    → closed (all_adopted trees (resolved_at place construct parts ∷ outer)) ≡ adopted (resolved_at place construct (and_parts parts trees)) outer
+all_closed_behind trees parts place construct outer = ap closed (adopted_in_turn trees parts place construct outer)
+
 -- the parts of a tree that was opened without any
 pub all_closed : (trees : ResolvedTrees) (place : Place) (construct : Construct) (outer : List ResolvedTree)
     → closed (all_adopted trees (resolved_at place construct no_resolved ∷ outer)) ≡ adopted (resolved_at place construct trees) outer
-all_closed trees place construct outer = ap closed (adopted_in_turn trees no_resolved place construct outer)
+all_closed trees place construct outer = all_closed_behind trees no_resolved place construct outer
 
 pub one_more_adopted : (trees : ResolvedTrees) (tree : ResolvedTree) (unfinished : List ResolvedTree)
     → all_adopted (and_parts trees (one_resolved tree)) unfinished ≡ adopted tree (all_adopted trees unfinished)
@@ -82,9 +88,10 @@ call_proceeds environment place name arguments rest h =
 
 pub call_made : (environment : Environment) (place : Place) (name : QName) (arguments : List SyntaxTree) (outer : List ResolvedTree) (construct : Construct)
     → construct ≡ call_resolved environment name (length arguments)
-    → closed (all_adopted (trees_resolved environment (trees_of arguments)) (resolved_at place construct no_resolved ∷ outer))
+    → closed (all_adopted (trees_resolved environment (trees_of arguments)) (resolved_at place construct (context_argument place construct (length arguments)) ∷ outer))
     ≡ adopted (form_resolved environment place (call name (trees_of arguments))) outer
 call_made environment place name arguments outer construct h =
-    all_closed (trees_resolved environment (trees_of arguments)) place construct outer
-    ∙ ap (λ (c : Construct). adopted (resolved_at place c (trees_resolved environment (trees_of arguments))) outer)
-    (h ∙ ap (λ (n : ℕ). call_resolved environment name n) (sym (counted arguments)))
+    let trees : ResolvedTrees = trees_resolved environment (trees_of arguments) in
+    all_closed_behind trees (context_argument place construct (length arguments)) place construct outer
+    ∙ (ap (λ (c : Construct). adopted (call_over place c (length arguments) trees) outer) h
+    ∙ ap (λ (n : ℕ). adopted (call_over place (call_resolved environment name n) n trees) outer) (sym (counted arguments)))

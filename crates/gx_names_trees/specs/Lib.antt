@@ -1,3 +1,4 @@
+pub mod Calls
 pub mod TreeRefusals
 pub mod TreeResolution
 pub mod Resolving

@@ -1,7 +1,6 @@
 -- What is refused of an expression, in the order of the text; at one place in the order of the rules (XQuery 1.0, section 3).
 use Rattle.std.specs.Prelude.{ℕ, ◌+◌, Bool, false, List, [], ◌∷◌, ◌++◌, Option, None, Some, is_some, if◌then◌else◌}
 use Rattle.gx_base.specs.Name.{same_name}
-use Rattle.gx_base.specs.Text.{same_text}
 use Rattle.gx_base.specs.declared.name.Name.{Name}
 use Rattle.gx_base.specs.declared.place.Place.{Place}
 use Rattle.gx_base.specs.declared.code.Code.TheVariants.{XPST0008, XPST0017, XQDY0044, XQST0040, XQST0089}
@@ -12,18 +11,15 @@ use Rattle.gx_ast.specs.declared.sequence_type.CaseHead.{CaseHead}
 use Rattle.gx_ast.specs.declared.sequence_type.DefaultHead.{DefaultHead}
 use Rattle.gx_ast.specs.declared.sequence_type.SequenceType.{SequenceType}
 use Rattle.gx_ast.specs.SyntaxTree.{SyntaxTree, SyntaxForm, SyntaxTrees, Bindings, Clauses, Keys, Cases, Attributes, AttributeParts, Parts, at, number, string, variable, parenthesised, empty_sequence, context_item, call, comma, flwor, quantified, typeswitch, conditional, binary, instance_of, treat_as, castable_as, cast_as, signed, path, axis_step, parent_step, filtered, direct, document_node, text_node, element_node, empty_element, attribute_node, empty_attribute, no_tree, a_tree, no_binding, a_binding, no_clause, for_clause, let_clause, where_clause, no_key, a_key, no_case, a_case, no_attribute, an_attribute, no_attribute_part, attribute_text, attribute_enclosed, no_part, blank_part, text_part, element_part, enclosed_part}
-use Rattle.gx_funcs.specs.declared.function.Function.{Function}
-use Rattle.gx_funcs.specs.Function.{function_named}
 use Rattle.gx_names_scope.specs.declared.refusal.Refusal.{Refusal}
-use Rattle.gx_resolved.specs.declared.tree.Construct.{Construct}
-use Rattle.gx_resolved.specs.declared.tree.Construct.TheVariants as constructs
 use Rattle.gx_resolved.specs.NestedMap.{innermost_value}
-use Rattle.gx_names_scope.specs.Environment.{Environment, function_uri, is_declared_function, element_name, plain_name, called_name, or_nameless, binder_of, with_optional, with_bound}
+use Rattle.gx_names_scope.specs.Environment.{Environment, element_name, plain_name, called_name, or_nameless, binder_of, with_optional, with_bound}
 use Rattle.gx_names_scope.specs.TreeCounts.{count_trees}
 use Rattle.gx_names_scope.specs.Refusing.{refused_if, where_named, unless_found, prefix_refusals}
 use Rattle.gx_names_types.specs.TypeNames.{written_type_refusals, type_refusals, target_refusals}
 use Rattle.gx_names_types.specs.Steps.{step_refusals}
 use Rattle.gx_names_scope.specs.StartTags.{is_xmlns, declares_namespace, namespaces_refusals, with_namespaces}
+use Rattle.gx_names_trees.specs.Calls.{called_construct}
 
 -- a use of a variable: its prefix is known, and it is in scope
 abbrev pub use_refusals : Environment → Place → QName → List Refusal
@@ -33,18 +29,7 @@ use_refusals environment place name =
 abbrev pub syntax_place : SyntaxTree → Place
 syntax_place (at place form) = place
 
-abbrev pub built_in_call : Option Function → Option Construct
-built_in_call None = None
-built_in_call (Some function) = Some (constructs.Call function)
-
--- a call of a function with so many parameters: of a built-in one in the namespace of the standard, elsewhere of a declared one
-abbrev pub called_construct : Environment → Name → (arity : ℕ) → Option Construct
-called_construct environment name arity =
-    if same_text name.uri function_uri then built_in_call (function_named name.local arity)
-    else if is_declared_function environment name arity then Some (constructs.CallDeclared name)
-    else None
-
--- a call: the prefix is known, and there is a function of this name with so many parameters
+-- a call: the prefix is known, and there is a function of this name that is called with so many arguments
 abbrev pub call_refusals : Environment → Place → QName → (arity : ℕ) → List Refusal
 call_refusals environment place name arity =
     where_named (called_name environment name) place (λ n. unless_found (called_construct environment n arity) place XPST0017)

@@ -21,7 +21,8 @@ use Rattle.gx_names_types.specs.TypeNames.{type_written, atomic_named}
 use Rattle.gx_names_types.specs.Steps.{axis_of_step, step_tested}
 use Rattle.gx_names_scope.specs.StartTags.{declares_namespace, with_namespaces}
 use Rattle.gx_names_scope.specs.TreeCounts.{count_trees}
-use Rattle.gx_names_trees.specs.TreeRefusals.{called_construct, syntax_place}
+use Rattle.gx_names_trees.specs.Calls.{called_construct, context_argument}
+use Rattle.gx_names_trees.specs.TreeRefusals.{syntax_place}
 
 -- a use of a variable, with the place of its binder
 abbrev pub use_resolved : Environment → Place → QName → Construct
@@ -31,6 +32,10 @@ use_resolved environment place name =
 
 abbrev pub call_resolved : Environment → QName → (arity : ℕ) → Construct
 call_resolved environment name arity = unwrap_or (called_construct environment (or_nameless (called_name environment name)) arity) (constructs.Call functions.True)
+
+-- a call over its arguments
+abbrev pub call_over : Place → Construct → (arity : ℕ) → (arguments : ResolvedTrees) → ResolvedTree
+call_over place construct arity arguments = resolved_at place construct (and_parts (context_argument place construct arity) arguments)
 
 abbrev pub binder_resolved : Environment → Variable → Option SequenceType → BoundName
 binder_resolved environment binder kind =
@@ -84,7 +89,8 @@ abbrev mutual
   form_resolved environment place (parenthesised inner) = resolved_at place constructs.Parenthesised (one_resolved (tree_resolved environment inner))
   form_resolved environment place empty_sequence = resolved_at place constructs.Empty no_resolved
   form_resolved environment place context_item = resolved_at place constructs.Context no_resolved
-  form_resolved environment place (call name arguments) = resolved_at place (call_resolved environment name (count_trees arguments)) (trees_resolved environment arguments)
+  form_resolved environment place (call name arguments) =
+      call_over place (call_resolved environment name (count_trees arguments)) (count_trees arguments) (trees_resolved environment arguments)
   form_resolved environment place (comma first second) =
       resolved_at place constructs.Sequence (two_resolved (tree_resolved environment first) (tree_resolved environment second))
   form_resolved environment place (flwor clauses order stable keys returned) =

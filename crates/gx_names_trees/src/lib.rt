@@ -3,6 +3,7 @@
 
 pub mod binders;
 mod branches;
+mod calls;
 mod constructors;
 mod direct;
 mod opening;

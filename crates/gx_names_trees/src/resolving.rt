@@ -4,15 +4,15 @@ ghost use Rattle.std.specs.Prelude.{◌≡◌, ◌≢◌, [], ◌∷◌, ◌++�
 ghost use Rattle.gx_base.specs.declared.code.Code.TheVariants as codes;
 ghost use Rattle.gx_names_scope.specs.Environment.{binder_of};
 ghost use Rattle.gx_names_scope.specs.Refusing.{unless_found};
-ghost use Rattle.gx_ast.specs.SyntaxTree.{call, cast_as, castable_as, conditional, filtered, instance_of, treat_as};
+ghost use Rattle.gx_ast.specs.SyntaxTree.{cast_as, castable_as, conditional, filtered, instance_of, treat_as};
 ghost use Rattle.gx_ast.specs.SyntaxView.{keys_of, trees_of};
 ghost use Rattle.gx_names_scope.specs.declared.tasks.Task.TheVariants as task;
 ghost use Rattle.gx_resolved.specs.declared.tree.Construct.TheVariants as constructs;
-ghost use Rattle.gx_names_trees.specs.TreeRefusals.{call_refusals, form_refusals, keys_refusals, tree_refusals, use_refusals};
+ghost use Rattle.gx_names_trees.specs.TreeRefusals.{form_refusals, keys_refusals, tree_refusals, use_refusals};
 ghost use Rattle.gx_names_types.specs.Steps.{step_refusals, step_tested, axis_of_step};
 ghost use Rattle.gx_names_scope.specs.Refused.{Judges, Proceeds};
 ghost use Rattle.gx_resolved.specs.ResolvedTree.{and_parts, no_resolved, one_resolved, resolved_at, two_resolved};
-ghost use Rattle.gx_names_trees.specs.TreeResolution.{call_resolved, form_resolved, keys_resolved, tree_resolved, use_resolved};
+ghost use Rattle.gx_names_trees.specs.TreeResolution.{form_resolved, keys_resolved, tree_resolved, use_resolved};
 ghost use Rattle.gx_base.specs.Stacked.{first};
 ghost use Rattle.gx_names_trees.specs.Resolving.{adopted, all_adopted, bound_rest_refusals, bound_rest_resolved, refusals_of_rest, refusals_with, rest_refusals, rest_resolved, trees_behind, trees_left, trees_of_rest, trees_with, with_part};
 
@@ -25,7 +25,6 @@ use gx_base::code::Code;
 use gx_base::name::{Name, SharedName};
 use gx_base::place::Place;
 use gx_base::stack::Stack;
-use gx_funcs::function::find_local;
 use gx_names_scope::names::Names;
 use gx_names_scope::refusal::{NameRefusal, refused};
 use gx_names_scope::start_tags::leave_namespaces;
@@ -442,28 +441,6 @@ impl<'a, 's> Resolving<'a, 's> {
         )?)
     }
 
-    // A call of a function, which is found by its name and the number of arguments.
-    #[tactic(auto, using(crate::proofs::ResolvingLemmas::call_refused, crate::proofs::ResolvingLemmas::call_proceeds, crate::proofs::ResolvingLemmas::call_made))]
-    fn open_call(
-        &mut self,
-        alloc: Global,
-        place: Place,
-        name: &QName,
-        arguments: &'a [Expr],
-    ) -> Result<(), NameRefusal>
-        ensures refusals { Proceeds result (form_refusals self.old.names place (call name.now (trees_of arguments.now)) ++ refusals_of_rest self.old) (refusals_of_rest self.new) }
-        ensures trees { OnOk result (trees_of_rest self.new ≡ trees_behind (form_resolved self.old.names place (call name.now (trees_of arguments.now))) self.old) }
-    {
-        match called(alloc, &self.names, place, name, arguments.len()) {
-            Ok(construct) => {
-                let tasks = &mut self.tasks;
-                let inside = Task::Trees(arguments);
-                Ok(open_one(alloc, tasks, &mut self.unfinished, place, construct, inside)?)
-            }
-            Err(refusal) => Err(refusal),
-        }
-    }
-
     // What has bindings: a FLWOR or a quantified expression.
     #[tactic(auto, using(crate::proofs::ResolvingLemmas::all_closed))]
     fn open_bindings(
@@ -609,31 +586,4 @@ fn used_by_name(
         Some(binder) => Ok(Construct::Variable(name, *binder)),
         None => Err(refused(place, Code::XPST0008)),
     }
-}
-
-// The function that is called.
-fn called(
-    alloc: Global,
-    names: &Names<'_>,
-    place: Place,
-    name: &QName,
-    arity: usize,
-) -> Result<Construct, NameRefusal>
-    ensures refusals { Judges result (call_refusals names.now place name.now arity) }
-    ensures function { IfOk result (λ construct. construct ≡ call_resolved names.now name.now arity) }
-{
-    let Some(name) = names.called_name(name)? else {
-        return Err(refused(place, Code::XPST0081));
-    };
-    if names.is_standard_function(&name) {
-        return match find_local(&name.local, arity) {
-            Some(function) => Ok(Construct::Call(function)),
-            None => Err(refused(place, Code::XPST0017)),
-        };
-    }
-    let name = SharedName::new(alloc, name)?;
-    if names.is_declared(name.clone()?, arity) {
-        return Ok(Construct::CallDeclared(name));
-    }
-    Err(refused(place, Code::XPST0017))
 }

@@ -44,11 +44,12 @@ use Rattle.gx_processor.specs.RuleCode.{rule_code}
 use Rattle.gx_processor.specs.declared.status.Status.{Status}
 use Rattle.gx_processor.specs.declared.status.Status.TheVariants as status
 use Rattle.gx_processor.specs.NamedQuery.{NamedQuery, named_query, unknown_name, query_named}
-use Rattle.gx_processor.specs.Command.{Command, run_file, check_file, query_file, command_of, texts_to_compare}
+use Rattle.gx_processor.specs.Command.{Command, run_file, check_file, query_file, command_of, texts_to_compare, workload_asked}
+use Rattle.gx_demo.specs.Workload.{workload_files}
 use Rattle.gx_processor.specs.FaultLines.{line, usage_line, left_type_line, right_type_line, read_fault_line, code_line, placed_line, binding_line, long_document_line, document_line, invalid_line, import_line, shown_with}
 use Rattle.gx_processor.specs.Serialisation.{serialised}
 use Rattle.gx_processor.specs.TypeBytes.{type_bytes}
-use Rattle.gx_processor.specs.Answer.{Answer, writes, refuses, can_be_written, AnswersTexts, AnswersOutcome, AnswersEvaluated, AnswersRead, AnswersKept, AnswersLoaded, AnswersFiles, AnswersBound, AnswersTyped, AnswersJudged, AnswersNamed, AnswersImported, AnswersSources, AnswersSchemas, AnswersParsed, AnswersBytes, AnswersFile, AnswersCommand, AnswersWords, AnAnswerExists}
+use Rattle.gx_processor.specs.Answer.{Answer, writes, refuses, can_be_written, AnswersTexts, AnswersOutcome, AnswersEvaluated, AnswersRead, AnswersKept, AnswersLoaded, AnswersFiles, AnswersBound, AnswersTyped, AnswersJudged, AnswersNamed, AnswersImported, AnswersSources, AnswersSchemas, AnswersParsed, AnswersBytes, AnswersFile, AnswersCommand, AnswersWords, AnAnswerExists, with_line_feed, workload_command, AnswersWorkload}
 
 outcome_answers : (schemas : SchemaSet) (t : SequenceType) (before : Forest) (o : Outcome Items) → Keeps (typed_setting schemas) before t o → (a : Answer) × AnswersOutcome o a
 outcome_answers schemas t before (gives items forest) h = (writes (serialised forest items), refl)
@@ -170,9 +171,16 @@ texts_answer left right =
       | inr (inr b) ↦ (writes (line b.0), inr (inr (b.0, b.1, refl)))
     ]
 
-words_answer : AnImportExists → ImportsAreSchemaSets → (files : Files) (texts : Option (List ℕ × List ℕ)) (asked : Option Command) → (a : Answer) × AnswersWords files texts asked a
-words_answer exists imports files (Some texts) asked = texts_answer (chars texts.0) (chars texts.1)
-words_answer exists imports files None asked = command_answers exists imports files asked
+workload_answers : AnImportExists → ImportsAreSchemaSets → (items : ℕ) → (a : Answer) × AnswersWorkload items a
+workload_answers exists imports items =
+    let run = command_answers exists imports (workload_files items) (Some workload_command) in
+    (with_line_feed run.0, (run.0, run.1, refl))
+
+words_answer : AnImportExists → ImportsAreSchemaSets → (files : Files) (texts : Option (List ℕ × List ℕ)) (workload : Option ℕ) (asked : Option Command)
+    → (a : Answer) × AnswersWords files texts workload asked a
+words_answer exists imports files (Some texts) workload asked = texts_answer (chars texts.0) (chars texts.1)
+words_answer exists imports files None (Some items) asked = workload_answers exists imports items
+words_answer exists imports files None None asked = command_answers exists imports files asked
 
 pub an_answer_exists : AnImportExists → ImportsAreSchemaSets → AnAnswerExists
-an_answer_exists exists imports words files = words_answer exists imports files (texts_to_compare words) (command_of words)
+an_answer_exists exists imports words files = words_answer exists imports files (texts_to_compare words) (workload_asked words) (command_of words)

@@ -31,12 +31,13 @@ use Rattle.gx_ast.specs.declared.query.Query.{Query as SyntaxQuery}
 use Rattle.gx_parse_grammar.specs.Query.{Parsing, parsed, refused}
 use Rattle.gx_parse_grammar.proofs.OneParsing.{one_parsing}
 use Rattle.gx_processor.specs.NamedQuery.{NamedQuery, named_query, unknown_name, query_named}
-use Rattle.gx_processor.specs.Command.{Command, run_file, check_file, query_file, command_of, command_named, is_operand, texts_to_compare}
+use Rattle.gx_processor.specs.Command.{Command, run_file, check_file, query_file, command_of, command_named, is_operand, texts_to_compare, workload_asked}
+use Rattle.gx_demo.specs.Workload.{items_asked, workload_files}
 use Rattle.gx_processor.specs.Externals.{external_words, documents_bound}
 use Rattle.gx_processor.specs.SchemaFiles.{schema_files, schema_requests}
 use Rattle.gx_processor.specs.FaultLines.{line, code_line, placed_line, long_document_line, document_line}
 use Rattle.gx_processor.proofs.LoadLemmas.{OfDocument}
-use Rattle.gx_processor.specs.Answer.{Answer, writes, refuses, can_be_written, AnswersOutcome, AnswersEvaluated, AnswersRead, AnswersKept, AnswersLoaded, AnswersFiles, AnswersBound, AnswersTyped, AnswersJudged, AnswersNamed, AnswersImported, AnswersSources, AnswersSchemas, AnswersParsed, AnswersBytes, AnswersFile, AnswersCommand, AnswersTexts, AnswersWords, Answers, ChecksRefuseForRuns}
+use Rattle.gx_processor.specs.Answer.{Answer, writes, refuses, can_be_written, AnswersOutcome, AnswersEvaluated, AnswersRead, AnswersKept, AnswersLoaded, AnswersFiles, AnswersBound, AnswersTyped, AnswersJudged, AnswersNamed, AnswersImported, AnswersSources, AnswersSchemas, AnswersParsed, AnswersBytes, AnswersFile, AnswersCommand, AnswersTexts, AnswersWords, Answers, ChecksRefuseForRuns, with_line_feed, workload_command}
 
 outcome_unique : (o : Outcome Items) (a b : Answer) → AnswersOutcome o a → AnswersOutcome o b → a ≡ b
 outcome_unique (gives items forest) a b h k = h ∙ sym k
@@ -144,12 +145,15 @@ texts_unique left right a b (inr (inr h)) (inl k) = absurd (k.0 h.1.lower h.1.le
 texts_unique left right a b (inr (inr h)) (inr (inl k)) = absurd (k.2 h.1.upper h.1.right_is)
 texts_unique left right a b (inr (inr h)) (inr (inr k)) = h.2 ∙ ap (λ (bytes : List ℕ). writes (line bytes)) (one_text left right h.0 k.0 h.1 k.1) ∙ sym k.2
 
-words_unique : ImportsAreOne → (files : Files) (texts : Option (List ℕ × List ℕ)) (asked : Option Command) (a b : Answer) → AnswersWords files texts asked a → AnswersWords files texts asked b → a ≡ b
-words_unique single files (Some texts) asked a b h k = texts_unique (chars texts.0) (chars texts.1) a b h k
-words_unique single files None asked a b h k = command_unique single files asked a b h k
+words_unique : ImportsAreOne → (files : Files) (texts : Option (List ℕ × List ℕ)) (workload : Option ℕ) (asked : Option Command) (a b : Answer)
+    → AnswersWords files texts workload asked a → AnswersWords files texts workload asked b → a ≡ b
+words_unique single files (Some texts) workload asked a b h k = texts_unique (chars texts.0) (chars texts.1) a b h k
+words_unique single files None (Some items) asked a b h k =
+    h.2 ∙ ap with_line_feed (command_unique single (workload_files items) (Some workload_command) h.0 k.0 h.1 k.1) ∙ sym k.2
+words_unique single files None None asked a b h k = command_unique single files asked a b h k
 
 pub answer_unique : ImportsAreOne → (words : List (List ℕ)) (files : Files) (a b : Answer) → Answers words files a → Answers words files b → a ≡ b
-answer_unique single words files a b h k = words_unique single files (texts_to_compare words) (command_of words) a b h k
+answer_unique single words files a b h k = words_unique single files (texts_to_compare words) (workload_asked words) (command_of words) a b h k
 
 -- the parts of two pairs that are equal
 pub same_parts : (p q : List ℕ × List ℕ) → Some p ≡ Some q → (p.0 ≡ q.0) × (p.1 ≡ q.1)
@@ -174,14 +178,42 @@ no_texts (a ∷ b ∷ []) command e = refl
 no_texts (a ∷ b ∷ c ∷ []) command e = compare_not a b c command (bytes_eq a (codes "subtype")) refl e
 no_texts (a ∷ b ∷ c ∷ d ∷ words) command e = refl
 
+-- nor do they ask for the workload
+workload_otherwise : (number : List ℕ) (command : Command) (operand : Bool) → (if operand then command_named (codes "demo") number [] else None) ≡ Some command → ⊥
+workload_otherwise number command true e = cc e
+workload_otherwise number command false e = cc e
+
+workload_not : (name number : List ℕ) (command : Command) (same : Bool) → bytes_eq name (codes "demo") ≡ same → command_of (name ∷ number ∷ []) ≡ Some command
+    → if◌then◌else◌ {A = Option ℕ} same (items_asked number) None ≡ None
+workload_not name number command false f e = refl
+workload_not name number command true f e =
+    absurd (workload_otherwise number command (is_operand number)
+    (subst (λ (x : List ℕ). (if is_operand number then command_named x number [] else None) ≡ Some command) ((bytes_eq-Decides name (codes "demo")).0 f) e))
+
+pub no_workload : (words : List (List ℕ)) (command : Command) → command_of words ≡ Some command → workload_asked words ≡ None
+no_workload [] command e = refl
+no_workload (a ∷ []) command e = refl
+no_workload (a ∷ b ∷ []) command e = workload_not a b command (bytes_eq a (codes "demo")) refl e
+no_workload (a ∷ b ∷ c ∷ words) command e = refl
+
+-- words that ask for the workload compare no texts
+pub workload_compares_not : (words : List (List ℕ)) (items : ℕ) → workload_asked words ≡ Some items → texts_to_compare words ≡ None
+workload_compares_not [] items e = refl
+workload_compares_not (a ∷ []) items e = refl
+workload_compares_not (a ∷ b ∷ []) items e = refl
+workload_compares_not (a ∷ b ∷ c ∷ words) items e = absurd (cc e)
+
 -- the answer to words over a query
 pub answer_asked : (words : List (List ℕ)) (files : Files) (command : Command) (a : Answer) → command_of words ≡ Some command → Answers words files a → AnswersCommand files (Some command) a
 answer_asked words files command a e h =
-    subst (λ (o : Option Command). AnswersCommand files o a) e (subst (λ (o : Option (List ℕ × List ℕ)). AnswersWords files o (command_of words) a) (no_texts words command e) h)
+    subst (λ (o : Option Command). AnswersCommand files o a) e
+    (subst (λ (o : Option ℕ). AnswersWords files None o (command_of words) a) (no_workload words command e)
+    (subst (λ (o : Option (List ℕ × List ℕ)). AnswersWords files o (workload_asked words) (command_of words) a) (no_texts words command e) h))
 
 pub asked_answer : (words : List (List ℕ)) (files : Files) (command : Command) (a : Answer) → command_of words ≡ Some command → AnswersCommand files (Some command) a → Answers words files a
 asked_answer words files command a e h =
-    subst (λ (o : Option (List ℕ × List ℕ)). AnswersWords files o (command_of words) a) (sym (no_texts words command e)) (subst (λ (o : Option Command). AnswersCommand files o a) (sym e) h)
+    subst (λ (o : Option (List ℕ × List ℕ)). AnswersWords files o (workload_asked words) (command_of words) a) (sym (no_texts words command e))
+    (subst (λ (o : Option ℕ). AnswersWords files None o (command_of words) a) (sym (no_workload words command e)) (subst (λ (o : Option Command). AnswersCommand files o a) (sym e) h))
 
 -- the answer where the words name a file that is held
 pub answer_at : (words : List (List ℕ)) (files : Files) (command : Command) (bytes : List ℕ) (a : Answer) → command_of words ≡ Some command → file_of files (query_file command) ≡ Some bytes → Answers words files a → AnswersFile files command (Some bytes) a

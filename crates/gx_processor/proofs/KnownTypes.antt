@@ -1,5 +1,5 @@
 -- The types that a query names are known, and so it is judged by inclusion.
-use Rattle.std.proofs.Common.{◌≡◌, ℕ, ◌+◌, ◌==◌, length, Bool, true, false, List, [], ◌∷◌, ◌++◌, Option, Some, None, option_map, inl, inr, refl, sym, ◌∙◌, subst, if◌then◌else◌}
+use Rattle.std.proofs.Common.{◌≡◌, ℕ, ◌+◌, ◌==◌, length, Bool, true, false, ◌&&◌, List, [], ◌∷◌, ◌++◌, Option, Some, None, option_map, inl, inr, refl, sym, ◌∙◌, subst, if◌then◌else◌}
 use Rattle.std.specs.Prelude.{unwrap_or}
 use Rattle.std.specs.Bool.{IsTrue}
 use Rattle.gx_base.specs.Name.{same_name}
@@ -38,12 +38,13 @@ use Rattle.gx_types.specs.declared.step.Axis.{Axis}
 use Rattle.gx_types.specs.declared.step.Axis.TheVariants as axes
 use Rattle.gx_types.specs.declared.step.Test.{Test}
 use Rattle.gx_types.specs.declared.step.Test.TheVariants as tests
+use Rattle.gx_types.specs.BuiltinOrder.{same_builtin}
 use Rattle.gx_types.proofs.DerivationTest.{derives_when_tested}
 use Rattle.gx_types.proofs.EqualNames.{type_name_symm}
 use Rattle.gx_typetext.specs.KnownNames.{node_types, item_types, is_atomic_name, type_with_name, if_atomic, atomic_with_name}
 use Rattle.gx_funcs.specs.declared.function.Function.{Function}
 use Rattle.gx_funcs.specs.declared.function.Function.TheVariants as functions
-use Rattle.gx_funcs.specs.Function.{arity_of, function_named}
+use Rattle.gx_funcs.specs.Function.{arity_of}
 use Rattle.gx_resolved.specs.declared.tree.BindingWord.{BindingWord}
 use Rattle.gx_resolved.specs.declared.tree.BindingWord.TheVariants as words
 use Rattle.gx_resolved.specs.declared.tree.BoundName.{BoundName}
@@ -55,7 +56,7 @@ use Rattle.gx_names_scope.specs.Environment.{Environment, function_uri, is_decla
 use Rattle.gx_names_scope.specs.StartTags.{declared_prefix, declares_namespace, with_namespace, with_namespaces}
 use Rattle.gx_names_scope.specs.TreeCounts.{count_trees}
 use Rattle.gx_names_types.specs.TypeNames.{atomic_named, element_tested, attribute_tested, element_declared, test_type, indicated_type, type_written}
-use Rattle.gx_names_trees.specs.TreeRefusals.{built_in_call}
+use Rattle.gx_names_trees.specs.Calls.{standard_function, built_in_call, with_constructor, type_constructed, constructor_call, is_string_call, context_argument}
 use Rattle.gx_names_trees.specs.TreeResolution.{binder_resolved, optional_resolved, binding_resolved, call_resolved, direct_attribute_resolved, tree_resolved, form_resolved, trees_resolved, bindings_resolved, clauses_resolved, keys_resolved, cases_resolved, attributes_resolved, attribute_parts_resolved, parts_resolved}
 use Rattle.gx_names.specs.Refusals.{definition_scope, scope_after, with_functions, query_refusals, with_parameters}
 use Rattle.gx_names.specs.Resolution.{declaration_resolved, declarations_resolved, function_resolved, query_resolved}
@@ -269,22 +270,57 @@ namespaces_same no_attribute environment = refl
 namespaces_same (an_attribute name value others) environment =
     namespaces_same others (with_namespace (declared_prefix name) value environment) ∙ namespace_same (declared_prefix name) value environment
 
--- ---- constructs that are no casts
+-- ---- constructs that are no casts, and calls, which cast where they are of constructor functions
 
 built_in_is_no_cast : (s : SchemaSet) (found : Option Function) → CastsAtomically s (unwrap_or (built_in_call found) (constructs.Call functions.True))
 built_in_is_no_cast s None = tt
 built_in_is_no_cast s (Some function) = tt
 
-called_is_no_cast : (s : SchemaSet) (name : Name) (arity : ℕ) (standard known : Bool)
-    → CastsAtomically s (unwrap_or (if standard then built_in_call (function_named name.local arity) else if known then Some (constructs.CallDeclared name) else None) (constructs.Call functions.True))
-called_is_no_cast s name arity true known = built_in_is_no_cast s (function_named name.local arity)
-called_is_no_cast s name arity false true = tt
-called_is_no_cast s name arity false false = tt
+atomic_is_constructed : (s : SchemaSet) (t : TypeName) → IsAtomic s t → CastsAtomically s (unwrap_or (constructor_call (with_constructor (Some t))) (constructs.Call functions.True))
+atomic_is_constructed s (names.Builtin b) h =
+    elim (same_builtin b AnyAtomic) as (λ (any : Bool). CastsAtomically s (unwrap_or (constructor_call (if any then None else Some b)) (constructs.Call functions.True))) [
+      | true ↦ tt
+      | false ↦ h
+    ]
+atomic_is_constructed s (names.Named n) h = tt
+atomic_is_constructed s (names.Anonymous n) h = tt
 
-call_is_no_cast : (s : SchemaSet) (environment : Environment) (name : QName) (arity : ℕ) → CastsAtomically s (call_resolved environment name arity)
-call_is_no_cast s environment name arity =
-    called_is_no_cast s (or_nameless (called_name environment name)) arity (same_text (or_nameless (called_name environment name)).uri function_uri)
-    (is_declared_function environment (or_nameless (called_name environment name)) arity)
+constructed_is_atomic : (s : SchemaSet) → IsSchemaSet s → (found : Option TypeName)
+    → CastsAtomically s (unwrap_or (constructor_call (with_constructor (if_atomic s found))) (constructs.Call functions.True))
+constructed_is_atomic s is None = tt
+constructed_is_atomic s is (Some t) = by (is_atomic_name s t) refl
+  where
+    by : (b : Bool) → is_atomic_name s t ≡ b → CastsAtomically s (unwrap_or (constructor_call (with_constructor (if b then Some t else None))) (constructs.Call functions.True))
+    by true h = atomic_is_constructed s t (name_is_atomic s is t h)
+    by false h = tt
+
+constructor_casts : (s : SchemaSet) → IsSchemaSet s → (environment : Environment) (name : Name) (arity : ℕ) → environment.schemas ≡ s
+    → CastsAtomically s (unwrap_or (constructor_call (type_constructed environment name arity)) (constructs.Call functions.True))
+constructor_casts s is environment name arity e =
+    subst (λ (schemas : SchemaSet). CastsAtomically s (unwrap_or (constructor_call (if arity == 1 then with_constructor (atomic_with_name schemas name) else None)) (constructs.Call functions.True))) (sym e)
+    (elim (arity == 1) as (λ (one : Bool). CastsAtomically s (unwrap_or (constructor_call (if one then with_constructor (atomic_with_name s name) else None)) (constructs.Call functions.True))) [
+      | true ↦ constructed_is_atomic s is (type_with_name s name)
+      | false ↦ tt
+    ])
+
+called_casts : (s : SchemaSet) → IsSchemaSet s → (environment : Environment) (name : Name) (arity : ℕ) → environment.schemas ≡ s → (standard declared : Bool)
+    → CastsAtomically s (unwrap_or (if standard then built_in_call (standard_function name.local arity) else if declared then Some (constructs.CallDeclared name)
+    else constructor_call (type_constructed environment name arity)) (constructs.Call functions.True))
+called_casts s is environment name arity e true declared = built_in_is_no_cast s (standard_function name.local arity)
+called_casts s is environment name arity e false true = tt
+called_casts s is environment name arity e false false = constructor_casts s is environment name arity e
+
+resolved_call_casts : (s : SchemaSet) → IsSchemaSet s → (environment : Environment) (name : QName) (arity : ℕ) → environment.schemas ≡ s → CastsAtomically s (call_resolved environment name arity)
+resolved_call_casts s is environment name arity e =
+    let called = or_nameless (called_name environment name) in
+    called_casts s is environment called arity e (same_text called.uri function_uri) (is_declared_function environment called arity)
+
+context_argument_casts : (s : SchemaSet) (place : Place) (construct : Construct) (arity : ℕ) → AreAllCastsAtomic s (context_argument place construct arity)
+context_argument_casts s place construct arity =
+    elim (arity == 0 && is_string_call construct) as (λ (b : Bool). AreAllCastsAtomic s (if b then one_resolved (resolved_at place constructs.Context no_resolved) else no_resolved)) [
+      | true ↦ ((tt, tt), tt)
+      | false ↦ tt
+    ]
 
 binding_is_no_cast : (s : SchemaSet) (word : BindingWord) (bound : BoundName) (position : Option BoundName) → CastsAtomically s (binding_resolved word bound position)
 binding_is_no_cast s words.Let bound position = tt
@@ -308,7 +344,10 @@ module _ (s : SchemaSet) (is : IsSchemaSet s) (signatures : Signatures) where
     atomic_form environment place (parenthesised inner) e = (tt, (atomic_tree environment inner e, tt))
     atomic_form environment place empty_sequence e = (tt, tt)
     atomic_form environment place context_item e = (tt, tt)
-    atomic_form environment place (call name arguments) e = (call_is_no_cast s environment name (count_trees arguments), atomic_trees environment arguments e)
+    atomic_form environment place (call name arguments) e =
+        let arity = count_trees arguments in
+        let construct = call_resolved environment name arity in
+        (resolved_call_casts s is environment name arity e, both_atomic s (context_argument place construct arity) (trees_resolved environment arguments) (context_argument_casts s place construct arity) (atomic_trees environment arguments e))
     atomic_form environment place (comma first second) e = (tt, (atomic_tree environment first e, (atomic_tree environment second e, tt)))
     atomic_form environment place (flwor clauses order stable keys returned) e = (
       tt,

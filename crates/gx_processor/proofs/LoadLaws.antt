@@ -23,7 +23,7 @@ use Rattle.gx_documents.specs.Documents.{Files, Request, HoldKept, DocumentsLoad
 use Rattle.gx_processor.specs.declared.status.Status.{Status}
 use Rattle.gx_processor.specs.declared.status.Status.TheVariants as status
 use Rattle.gx_processor.specs.Answer.{Answer, refuses, can_be_written, AnswersEvaluated, AnswersRead, AnswersKept, AnswersLoaded, AnswersFiles, AnswersBound, AnswersRun, AnswersTyped, AnswersJudged, AnswersNamed, AnswersImported, AnswersSources, AnswersSchemas, AnswersParsed, AnswersBytes, AnswersFile, AnswersCommand, AnswersWords}
-use Rattle.gx_processor.specs.Command.{Command, run_file, check_file, query_file, command_of, texts_to_compare}
+use Rattle.gx_processor.specs.Command.{Command, run_file, check_file, query_file, command_of, texts_to_compare, workload_asked}
 use Rattle.gx_processor.specs.Externals.{external_words, documents_bound}
 use Rattle.gx_processor.specs.FaultLines.{code_line, placed_line, long_document_line}
 use Rattle.gx_processor.specs.Loading.{BoundLoads, RunLoads, QueryLoads, BehindQuery, CommandLoads, LoadsAsked, AgreeOn, AnswersLookAtTheirLoads}
@@ -196,9 +196,11 @@ module _ (single : ImportsAreOne) (files others : Files) where
   asked_moves None loads a l agree h = h
   asked_moves (Some command) loads a l agree h = command_moves command loads a l agree h
 
-  words_move : (texts : Option (List ℕ × List ℕ)) (asked : Option Command) (loads : List (List ℕ)) (a : Answer) → LoadsAsked files asked loads → AgreeOn loads files others → AnswersWords files texts asked a → AnswersWords others texts asked a
-  words_move (Some texts) asked loads a l agree h = h
-  words_move None asked loads a l agree h = asked_moves asked loads a l agree h
+  words_move : (texts : Option (List ℕ × List ℕ)) (workload : Option ℕ) (asked : Option Command) (loads : List (List ℕ)) (a : Answer) → LoadsAsked files asked loads → AgreeOn loads files others
+      → AnswersWords files texts workload asked a → AnswersWords others texts workload asked a
+  words_move (Some texts) workload asked loads a l agree h = h
+  words_move None (Some items) asked loads a l agree h = h
+  words_move None None asked loads a l agree h = asked_moves asked loads a l agree h
 
 pub answers_look_at_their_loads : ImportsAreOne → AnswersLookAtTheirLoads
-answers_look_at_their_loads single words files others loads a l agree h = words_move single files others (texts_to_compare words) (command_of words) loads a l agree h
+answers_look_at_their_loads single words files others loads a l agree h = words_move single files others (texts_to_compare words) (workload_asked words) (command_of words) loads a l agree h

@@ -23,7 +23,7 @@ use Rattle.gx_processor.specs.Loading.{loads_behind, MayLoad}
 use Rattle.gx_documents.specs.Documents.{Files}
 use Rattle.gx_processor.specs.Run.{Run, WhereTold, IsFaultless, LoadsQuery}
 use Rattle.gx_processor.specs.Promises.{IsCertain, IsCutShort, LeavesAnswer, IsAnswered, MayFollowOutput, PutsOutput, IsLineOf, of_write_fault, of_read_fault, of_refusal, PutsLine, OutputAfter, LineAfter, FailsToWrite, FailsToRead, IsTooLong, ComparesTexts}
-use Rattle.gx_processor.proofs.AnswerLemmas.{answer_unique, answer_at, no_texts, same_parts}
+use Rattle.gx_processor.proofs.AnswerLemmas.{answer_unique, answer_at, no_texts, workload_compares_not, same_parts}
 use Rattle.gx_processor.proofs.Told.{told_so, told_always}
 use Rattle.gx_processor.proofs.Course.{Loaded, Course, to_output, to_read_fault, to_refusal, to_no_memory}
 
@@ -330,9 +330,10 @@ form_not_done words Memory line form e = cc
 -- what a comparison writes
 texts_written : (words : List (List ℕ)) (left right bytes : List ℕ) → texts_to_compare words ≡ Some (left, right) → IsAsked words bytes → (answer : List ℕ) × IsAnswerText (chars left) (chars right) answer × (bytes ≡ line answer)
 texts_written words left right bytes e (inl q) = let none = no_texts words q.0 q.1 in cc
-texts_written words left right bytes e (inr (one, two, f, inl h)) = cc h.1
-texts_written words left right bytes e (inr (one, two, f, inr (inl h))) = cc h.3
-texts_written words left right bytes e (inr (one, two, f, inr (inr h))) =
+texts_written words left right bytes e (inr (inr q)) = let none = workload_compares_not words q.0 q.1 in cc
+texts_written words left right bytes e (inr (inl (one, two, f, inl h))) = cc h.1
+texts_written words left right bytes e (inr (inl (one, two, f, inr (inl h)))) = cc h.3
+texts_written words left right bytes e (inr (inl (one, two, f, inr (inr h)))) =
     let same = same_parts (one, two) (left, right) (sym f ∙ e) in
     (h.0, subst (λ (x : List ℕ). IsAnswerText (chars x) (chars right) h.0) same.0 (subst (λ (x : List ℕ). IsAnswerText (chars one) (chars x) h.0) same.1 h.1), ap output_of h.2)
 

@@ -12,10 +12,10 @@ use Rattle.gx_documents.specs.Documents.{Files}
 use Rattle.gx_processor.specs.declared.status.Status.{Status}
 use Rattle.gx_processor.specs.declared.refusal.Refusal.{Refusal}
 use Rattle.gx_processor.specs.declared.refusal.Refusal.TheVariants as refusal
-use Rattle.gx_processor.specs.Command.{Command, query_file, command_of, texts_to_compare, IsRunCommand}
-use Rattle.gx_processor.specs.Replies.{RefusesSo, HasCause, RepliesSo, IsMisuse, IsWellFormed, IsUsageOrStarved, IsFaultOrStarved, IsReplyOf, IsQueryForm, IsQueryReply, IsComparison}
+use Rattle.gx_processor.specs.Command.{Command, query_file, command_of, texts_to_compare, workload_asked, IsRunCommand}
+use Rattle.gx_processor.specs.Replies.{RefusesSo, HasCause, RepliesSo, IsMisuse, IsWellFormed, IsUsageOrStarved, IsFaultOrStarved, IsReplyOf, IsQueryForm, IsQueryReply, IsComparison, IsWorkload}
 use Rattle.gx_processor.specs.FaultLines.{read_fault_line, code_line, placed_line, binding_line, long_document_line, document_line, invalid_line, import_line}
-use Rattle.gx_processor.proofs.AnswerLemmas.{no_texts, asked_answer, same_parts}
+use Rattle.gx_processor.proofs.AnswerLemmas.{no_texts, no_workload, workload_compares_not, asked_answer, same_parts}
 
 -- what follows from an answer follows from a reply that says it
 pub replies_through : (r : Reply) (P Q : Answer → Type 0) → ((a : Answer) → P a → Q a) → RepliesSo r P → RepliesSo r Q
@@ -58,8 +58,8 @@ query_no_misuse words command line r e (inr (left, right, f, h)) = let none = no
 pub texts_answered : (told : Option (Files)) (words : List (List ℕ)) (left right : List ℕ) (r : Reply) → texts_to_compare words ≡ Some (left, right) → IsComparison (chars left) (chars right) r
     → IfSome told (λ files. RepliesSo r (Answers words files))
 texts_answered None words left right r e h = tt
-texts_answered (Some files) words left right (Output text) e h = subst (λ (o : Option (List ℕ × List ℕ)). AnswersWords files o (command_of words) (writes (string_bytes text))) (sym e) h
-texts_answered (Some files) words left right (Fault status.Usage line) e h = subst (λ (o : Option (List ℕ × List ℕ)). AnswersWords files o (command_of words) (refuses status.Usage (string_bytes line))) (sym e) h.1
+texts_answered (Some files) words left right (Output text) e h = subst (λ (o : Option (List ℕ × List ℕ)). AnswersWords files o (workload_asked words) (command_of words) (writes (string_bytes text))) (sym e) h
+texts_answered (Some files) words left right (Fault status.Usage line) e h = subst (λ (o : Option (List ℕ × List ℕ)). AnswersWords files o (workload_asked words) (command_of words) (refuses status.Usage (string_bytes line))) (sym e) h.1
 texts_answered (Some files) words left right (Fault status.Done line) e h = cc h.0
 texts_answered (Some files) words left right (Fault status.Query line) e h = cc h.0
 texts_answered (Some files) words left right (Fault status.Schema line) e h = cc h.0
@@ -71,7 +71,7 @@ texts_answered (Some files) words left right (Fault status.Memory line) e h = cc
 texts_answered (Some files) words left right Starved e h = tt
 
 pub texts_formed : (words : List (List ℕ)) (left right : List ℕ) (r : Reply) → texts_to_compare words ≡ Some (left, right) → IsComparison (chars left) (chars right) r → IsWellFormed words r
-texts_formed words left right (Output text) e h = inr (left, right, e, h)
+texts_formed words left right (Output text) e h = inr (inl (left, right, e, h))
 texts_formed words left right (Fault status.Usage line) e h = inl (inr (left, right, e, h.1))
 texts_formed words left right (Fault status.Done line) e h = cc h.0
 texts_formed words left right (Fault status.Query line) e h = cc h.0
@@ -115,6 +115,32 @@ texts_misused words left right line (Fault status.ReadFault told) e h (inr m) = 
 texts_misused words left right line (Fault status.WriteFault told) e h (inr m) = cc h.0
 texts_misused words left right line (Fault status.Memory told) e h (inr m) = cc h.0
 texts_misused words left right line Starved e h (inr m) = tt
+
+-- the workload
+pub workload_answered : (told : Option (Files)) (words : List (List ℕ)) (items : ℕ) (r : Reply) → workload_asked words ≡ Some items → IsWorkload items r → IfSome told (λ files. RepliesSo r (Answers words files))
+workload_answered None words items r e h = tt
+workload_answered (Some files) words items (Output text) e h =
+    subst (λ (o : Option (List ℕ × List ℕ)). AnswersWords files o (workload_asked words) (command_of words) (writes (string_bytes text))) (sym (workload_compares_not words items e))
+    (subst (λ (o : Option ℕ). AnswersWords files None o (command_of words) (writes (string_bytes text))) (sym e) h)
+workload_answered (Some files) words items (Fault told line) e h = absurd h
+workload_answered (Some files) words items Starved e h = tt
+
+pub workload_formed : (words : List (List ℕ)) (items : ℕ) (r : Reply) → workload_asked words ≡ Some items → IsWorkload items r → IsWellFormed words r
+workload_formed words items (Output text) e h = inr (inr (items, e, h))
+workload_formed words items (Fault told line) e h = absurd h
+workload_formed words items Starved e h = tt
+
+-- words that ask for the workload name no command over a query
+no_query_of : (words : List (List ℕ)) (items : ℕ) (asked : Option Command) → command_of words ≡ asked → workload_asked words ≡ Some items → asked ≡ None
+no_query_of words items None e f = refl
+no_query_of words items (Some command) e f = let none = no_workload words command e in cc
+
+pub workload_names_no_query : (words : List (List ℕ)) (items : ℕ) → workload_asked words ≡ Some items → command_of words ≡ None
+workload_names_no_query words items f = no_query_of words items (command_of words) refl f
+
+pub workload_misused : (words : List (List ℕ)) (items : ℕ) (line : List ℕ) (r : Reply) → workload_asked words ≡ Some items → IsMisuse words line → IsUsageOrStarved r
+workload_misused words items line r e (inl m) = let none = m.0.2 in cc
+workload_misused words items line r e (inr (left, right, f, h)) = let none = workload_compares_not words items e in cc
 
 -- ---- a reply to a refusal
 

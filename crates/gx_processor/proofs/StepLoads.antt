@@ -25,7 +25,7 @@ use Rattle.gx_processor.specs.Externals.{external_words, documents_bound}
 use Rattle.gx_processor.specs.FaultLines.{read_fault_line, code_line, placed_line, binding_line, long_document_line, document_line, invalid_line, import_line}
 use Rattle.gx_processor.specs.Loading.{BoundLoads, RunLoads, BehindQuery, CommandLoads, LoadsAsked, loads_behind}
 use Rattle.gx_processor.specs.Promises.{IsCertain}
-use Rattle.gx_processor.specs.Replies.{IsFaultOrStarved, IsComparison, IsReplyOf, TellsOf, ReplyTells, NamesOneOf, AreFirst, ReplyLoads, ReplyFailed, LoadFailed, LoadsSo, RefusalLoads, RefusalFailed, OutputLoads}
+use Rattle.gx_processor.specs.Replies.{IsFaultOrStarved, IsComparison, IsWorkload, IsReplyOf, TellsOf, ReplyTells, NamesOneOf, AreFirst, ReplyLoads, ReplyFailed, LoadFailed, LoadsSo, RefusalLoads, RefusalFailed, OutputLoads}
 use Rattle.gx_processor.proofs.CommandLoads.{one_query, one_typing, one_query_load}
 use Rattle.gx_processor.proofs.LoadLemmas.{one_load, whole_is_front}
 use Rattle.gx_processor.proofs.PromiseLemmas.{put_is_of_it}
@@ -153,6 +153,19 @@ misuse_loads library asked line r untouched none h = idle_loads library asked r 
 
 pub comparison_loads : (library : LibraryUse) (asked : Option Command) (left right : List ℕ) (r : Reply) → library.after ≡ library.before → asked ≡ None → IsComparison left right r → LoadsSo library asked r
 comparison_loads library asked left right r untouched none h = idle_loads library asked r untouched none (comparison_unfailed library left right r h) (comparison_tells left right r h)
+
+workload_unfailed : (library : LibraryUse) (items : ℕ) (r : Reply) → IsWorkload items r → ReplyFailed library [] r
+workload_unfailed library items (Output text) h = tt
+workload_unfailed library items (Fault told line) h = absurd h
+workload_unfailed library items Starved h = tt
+
+workload_tells : (items : ℕ) (r : Reply) → IsWorkload items r → ReplyTells [] r
+workload_tells items (Output text) h = tt
+workload_tells items (Fault told line) h = absurd h
+workload_tells items Starved h = tt
+
+pub workload_loads : (library : LibraryUse) (asked : Option Command) (items : ℕ) (r : Reply) → library.after ≡ library.before → asked ≡ None → IsWorkload items r → LoadsSo library asked r
+workload_loads library asked items r untouched none h = idle_loads library asked r untouched none (workload_unfailed library items r h) (workload_tells items r h)
 
 -- ---- a reply to a refusal
 

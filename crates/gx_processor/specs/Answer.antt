@@ -39,7 +39,8 @@ use Rattle.gx_documents.specs.Documents.{Files, Request, tree_requests, document
 use Rattle.gx_processor.specs.Externals.{external_words, documents_bound}
 use Rattle.gx_processor.specs.SchemaFiles.{schema_files, schema_requests, file_name_at}
 use Rattle.gx_schema.specs.Import.{Imported, declares, breaks, IsImported}
-use Rattle.gx_processor.specs.Command.{Command, run_file, check_file, query_file, command_of, texts_to_compare}
+use Rattle.gx_processor.specs.Command.{Command, run_file, check_file, query_file, command_of, texts_to_compare, workload_asked}
+use Rattle.gx_demo.specs.Workload.{workload_query, workload_binding, workload_files}
 use Rattle.gx_processor.specs.FaultLines.{line, usage_line, left_type_line, right_type_line, read_fault_line, code_line, placed_line, binding_line, long_document_line, document_line, invalid_line, import_line, shown_with}
 use Rattle.gx_base.specs.declared.limits.TheConstants.{FILE_BYTES}
 
@@ -168,14 +169,28 @@ AnswersTexts left right answer =
     ⊎ (((t : SequenceType) × IsTypeText no_declarations left t × IsNoType right × (answer ≡ refuses status.Usage right_type_line))
     ⊎ ((bytes : List ℕ) × IsAnswerText left right bytes × (answer ≡ writes (line bytes))))
 
--- the words `subtype`, and else those of a query
-abbrev pub AnswersWords : Files → Option (List ℕ × List ℕ) → Option Command → Answer → Type 0
-AnswersWords files (Some texts) asked answer = AnswersTexts (chars texts.0) (chars texts.1) answer
-AnswersWords files None asked answer = AnswersCommand files asked answer
+-- an output with a line feed behind it
+abbrev pub with_line_feed : Answer → Answer
+with_line_feed (writes bytes) = writes (line bytes)
+with_line_feed (refuses status told) = refuses status told
+
+-- the run of the query of the workload
+abbrev pub workload_command : Command
+workload_command = run_file workload_query (workload_binding ∷ [])
+
+-- what a run answers over the files of the workload, with a line feed
+abbrev pub AnswersWorkload : (items : ℕ) → Answer → Type 0
+AnswersWorkload items answer = (run : Answer) × AnswersCommand (workload_files items) (Some workload_command) run × (answer ≡ with_line_feed run)
+
+-- the words `subtype`, the words `demo`, and else those of a query
+abbrev pub AnswersWords : Files → (texts : Option (List ℕ × List ℕ)) (workload : Option ℕ) → Option Command → Answer → Type 0
+AnswersWords files (Some texts) workload asked answer = AnswersTexts (chars texts.0) (chars texts.1) answer
+AnswersWords files None (Some items) asked answer = AnswersWorkload items answer
+AnswersWords files None None asked answer = AnswersCommand files asked answer
 
 -- each step of the work is done only where no step before it refuses
 abbrev pub Answers : List (List ℕ) → Files → Answer → Type 0
-Answers words files answer = AnswersWords files (texts_to_compare words) (command_of words) answer
+Answers words files answer = AnswersWords files (texts_to_compare words) (workload_asked words) (command_of words) answer
 
 -- there is an answer to all words and files
 abbrev pub AnAnswerExists : Type 0

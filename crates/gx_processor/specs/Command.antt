@@ -2,6 +2,7 @@
 use Rattle.std.specs.Prelude.{◌≡◌, String, string_bytes, map, ℕ, ◌==◌, nat_le, not, Bool, true, false, ◌&&◌, List, [], ◌∷◌, length, Option, None, Some, codes, bytes_eq, if◌then◌else◌}
 use Rattle.std.specs.List.{list_all, list_any}
 use Rattle.gx_base.specs.declared.limits.TheConstants.{WORD_BYTES}
+use Rattle.gx_demo.specs.Workload.{items_asked}
 
 -- what the program is asked to do with the query in a file: to run it, with words that bind its external variables, or to check it
 pub data Command : Type 0 where
@@ -57,6 +58,11 @@ abbrev pub texts_to_compare : List (List ℕ) → Option (List ℕ × List ℕ)
 texts_to_compare (name ∷ left ∷ right ∷ []) = if bytes_eq name (codes "subtype") && (is_operand left && is_operand right) then Some (left, right) else None
 texts_to_compare _ = None
 
+-- the number of items of `demo N`
+abbrev pub workload_asked : List (List ℕ) → Option ℕ
+workload_asked (name ∷ number ∷ []) = if bytes_eq name (codes "demo") then items_asked number else None
+workload_asked _ = None
+
 -- the words name no command
 abbrev pub NameNoCommand : List (List ℕ) → Type 0
-NameNoCommand words = (command_of words ≡ None) × (texts_to_compare words ≡ None)
+NameNoCommand words = (command_of words ≡ None) × (texts_to_compare words ≡ None) × (workload_asked words ≡ None)

@@ -11,14 +11,14 @@ use Rattle.gx_processor.specs.declared.reply.Reply.TheVariants.{Output, Fault, S
 use Rattle.gx_processor.specs.declared.refusal.Refusal.{Refusal}
 use Rattle.gx_processor.specs.declared.refusal.Refusal.TheVariants as refusal
 use Rattle.std.specs.Str.{chars}
-use Rattle.gx_processor.specs.Answer.{Answer, writes, refuses, AnswersTexts}
+use Rattle.gx_processor.specs.Answer.{Answer, writes, refuses, AnswersTexts, AnswersWorkload}
 use Rattle.gx_documents.specs.declared.documents.DocumentFault.{DocumentFault}
 use Rattle.gx_documents.specs.declared.documents.DocumentFault.TheVariants as faults
 use Rattle.gx_documents.specs.Bindings.{Misbound}
 use Rattle.gx_documents.specs.BindingView.{plain_fault}
 use Rattle.gx_documents.specs.Reading.{IsLastLoad}
 use Rattle.gx_io.specs.LibraryUse.{LibraryUse, LoadsOnly, LibraryFailed, LastLoadFailed}
-use Rattle.gx_processor.specs.Command.{Command, query_file, command_of, texts_to_compare, NameNoCommand, AskOfQuery, AskToRun, IsRunCommand}
+use Rattle.gx_processor.specs.Command.{Command, query_file, command_of, texts_to_compare, workload_asked, NameNoCommand, AskOfQuery, AskToRun, IsRunCommand}
 use Rattle.gx_processor.specs.Loading.{CommandLoads, LoadsAsked, AreFirstOf, IsOneOfLoads, loads_behind, MayLoad}
 use Rattle.gx_processor.specs.FaultLines.{usage_line, read_fault_line, code_line, placed_line, binding_line, long_document_line, document_line, invalid_line, import_line, IsQueryLine, IsReaderLineIn, IsImportLineIn, IsSchemaLine, IsDocumentLineIn, IsDocumentLine}
 
@@ -117,11 +117,12 @@ abbrev pub HasLine : List (List ℕ) → Status → List ℕ → Type 0
 HasLine words status.ReadFault line = Unit {0}
 HasLine words status line = HasForm words status line
 
--- an output is that of a query, or the answer on two texts
+-- an output is that of a query, the answer on two texts, or that of the workload
 abbrev pub IsAsked : List (List ℕ) → List ℕ → Type 0
 IsAsked words bytes =
     ((command : Command) × (command_of words ≡ Some command))
-    ⊎ ((left : List ℕ) × (right : List ℕ) × (texts_to_compare words ≡ Some (left, right)) × AnswersTexts (chars left) (chars right) (writes bytes))
+    ⊎ (((left : List ℕ) × (right : List ℕ) × (texts_to_compare words ≡ Some (left, right)) × AnswersTexts (chars left) (chars right) (writes bytes))
+    ⊎ ((items : ℕ) × (workload_asked words ≡ Some items) × AnswersWorkload items (writes bytes)))
 
 abbrev pub IsWellFormed : List (List ℕ) → Reply → Type 0
 IsWellFormed words (Output text) = IsAsked words (string_bytes text)
@@ -151,6 +152,12 @@ abbrev pub IsComparison : (left right : List ℕ) → Reply → Type 0
 IsComparison left right (Output text) = AnswersTexts left right (writes (string_bytes text))
 IsComparison left right (Fault told line) = (told ≡ status.Usage) × AnswersTexts left right (refuses status.Usage (string_bytes line))
 IsComparison left right Starved = Unit {0}
+
+-- what is replied where the workload is run
+abbrev pub IsWorkload : (items : ℕ) → Reply → Type 0
+IsWorkload items (Output text) = AnswersWorkload items (writes (string_bytes text))
+IsWorkload items (Fault told line) = ⊥
+IsWorkload items Starved = Unit {0}
 
 -- what is replied where a file holds no document
 abbrev pub IsDocumentFault : (told : Status) (file : List ℕ) → DocumentFault → Reply → Type 0

@@ -2,10 +2,12 @@
 
 ghost use Rattle.std.specs.Prelude.{◌≡◌, ◌==◌, ◌≤◌, length, option_map, IfSome, IsTrue};
 ghost use Rattle.std.specs.List.{list_all, list_any};
-ghost use Rattle.gx_processor.specs.Command.{bytes_of, is_binding, is_operand, command_named, command_of, texts_to_compare};
+ghost use Rattle.gx_processor.specs.Command.{bytes_of, is_binding, is_operand, command_named, command_of, texts_to_compare, workload_asked};
+ghost use Rattle.gx_demo.specs.declared.workload.TheConstants.{WORKLOAD_ITEMS};
 ghost use Rattle.gx_processor.specs.CommandView.{plain_command, plain_texts};
 
 use gx_base::limits::WORD_BYTES;
+use gx_demo::workload::items_asked;
 
 /// What the words ask for, with the name of the query's file.
 #[derive(Clone, Copy)]
@@ -59,6 +61,17 @@ pub fn texts_to_compare(words: &[String]) -> Option<(&str, &str)>
             if name.as_str() == "subtype"
                 && is_operand(left.as_str())
                 && is_operand(right.as_str()) => { Some((left.as_str(), right.as_str())) }
+        _ => None,
+    }
+}
+
+/// The number of items that the words ask the workload for, if they are `demo` and such a number.
+pub fn workload_asked(words: &[String]) -> Option<u32>
+    ensures items { result ≡ workload_asked (bytes_of words.now) }
+    ensures within { IfSome result (λ items. items ≤ WORKLOAD_ITEMS) }
+{
+    match words {
+        [name, number] if name.as_str() == "demo" => items_asked(number.as_str()),
         _ => None,
     }
 }

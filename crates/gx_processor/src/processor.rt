@@ -11,9 +11,11 @@ ghost use Rattle.gx_processor.specs.Ending.{Ends, Put, PutOutput};
 ghost use Rattle.gx_documents.specs.BindingView.{plain_fault};
 ghost use Rattle.gx_processor.specs.FaultLines.{binding_line, document_line, import_line, invalid_line, invalid_rule_name, line, placed_line, schema_rule_name, xml_rule_name};
 ghost use Rattle.gx_processor.specs.Promises.{Promises};
-ghost use Rattle.gx_processor.specs.Replies.{IsQueryReply, RepliesSo, LoadsSo, IsWellFormed, IsMisuse, IsUsageOrStarved, IsReplyOf, IsDocumentFault, IsFaultOrStarved, IsOutputOrStarved, IsComparison};
+ghost use Rattle.gx_processor.specs.Replies.{IsQueryReply, RepliesSo, LoadsSo, IsWellFormed, IsMisuse, IsUsageOrStarved, IsReplyOf, IsDocumentFault, IsFaultOrStarved, IsOutputOrStarved, IsComparison, IsWorkload};
+ghost use Rattle.gx_demo.specs.Workload.{workload_binding, workload_files};
+ghost use Rattle.gx_demo.specs.declared.workload.TheConstants.{WORKLOAD_ITEMS};
 
-use crate::command::{Command, command_of_words, texts_to_compare};
+use crate::command::{Command, command_of_words, texts_to_compare, workload_asked};
 use crate::laws::named_queries_have_documents;
 use crate::output::output;
 use crate::refusal::Refusal;
@@ -24,10 +26,11 @@ use gx_base::limits::FILE_BYTES;
 use gx_base::place::Place;
 use gx_base::text::Text;
 use gx_core::laws::sound_queries_keep_their_types;
+use gx_demo::workload::{BINDING, QUERY_FILE, workload};
 use gx_documents::bindings::BindingFault;
 use gx_documents::documents::DocumentFault;
 use gx_documents::laws::{documents_are_as_asked, documents_are_honest, held_trees_are_kept};
-use gx_io::{Library, PutError, Sink};
+use gx_io::{Library, MemoryLibrary, PutError, Sink};
 use gx_schema::laws::{imports_are_one, imports_are_schema_sets};
 use gx_schema::refusal::SchemaRule;
 use gx_static::laws::{query_rejection_names_a_failure, query_typing_is_sound};
@@ -44,6 +47,7 @@ use std::alloc::{AllocError, Global};
 /// (XML Schema 1.0 part 1, section 3.3.4), and `check FILE` writes the text of the type that the static rules give the query (XQuery 1.0, section 2.2.3.1).
 /// `subtype TEXT TEXT` writes whether the type of the left text is included in that of the right one (XQuery 1.0 and XPath
 /// 2.0 Formal Semantics, section 8.3): `yes`, `no: ` with the first list of shapes that is not, or `unknown`.
+/// `demo N` writes what a query answers over an auction of N items that it makes itself, and a line feed.
 pub fn galax<L: Library, O: Sink, E: Sink>(
     alloc: Global,
     words: &[String],
@@ -84,9 +88,35 @@ fn reply_to<L: Library>(alloc: Global, words: &[String], library: &mut L) -> Rep
     if let Some((left, right)) = texts_to_compare(words) {
         return comparison(alloc, left, right);
     }
+    if let Some(items) = workload_asked(words) {
+        return workload_reply(alloc, items);
+    }
     match command_of_words(words) {
         Some(command) => query_reply(alloc, command, library),
         None => fault(alloc, Status::Usage, "Usage: words", ""),
+    }
+}
+
+// What the program replies where it is to run the workload over so many items. The run refuses none of its files.
+fn workload_reply(alloc: Global, items: u32) -> Reply
+    requires { items ≤ WORKLOAD_ITEMS }
+    ensures { IsWorkload items result }
+{
+    match (workload(alloc, items), String::from_str(alloc, BINDING)) {
+        (Ok(files), Ok(binding)) => workload_run(alloc, files, binding),
+        _ => Reply::Starved,
+    }
+}
+
+// What the program replies where the query of the workload is run over these files.
+fn workload_run(alloc: Global, files: MemoryLibrary, binding: String) -> Reply
+    ensures { (items : ℕ) → files.files ≡ workload_files items → string_bytes binding ≡ workload_binding → IsWorkload items result }
+{
+    let bindings = [binding];
+    let mut library = files;
+    match query_reply(alloc, Command::Run(QUERY_FILE, &bindings), &mut library) {
+        Reply::Output(text) => output_line(text),
+        Reply::Fault(_, _) | Reply::Starved => Reply::Starved,
     }
 }
 

@@ -19,22 +19,24 @@ use Rattle.gx_funcs.specs.declared.text_function.TextFunction.{TextFunction}
 use Rattle.gx_funcs.specs.declared.function.Conversion.{Conversion}
 use Rattle.gx_funcs.specs.declared.function.Conversion.TheVariants.{Nothing}
 use Rattle.gx_funcs.specs.Texts.{text_answer}
-use Rattle.gx_funcs.specs.Function.{conversion_of, value_parameters_of, text_parameters_of, text_answer_type_of, integer_atom, string_atom, string_of_item, has_no_item, any_items, one_item_at_most, truth_valued}
+use Rattle.gx_funcs.specs.Function.{conversion_of, value_parameters_of, item_parameters_of, text_parameters_of, text_answer_type_of, integer_atom, string_atom, string_of_item, has_no_item, any_items, one_item_at_most, truth_valued}
 use Rattle.gx_model.specs.Forest.{Forest}
 use Rattle.gx_model.specs.Honest.{IsHonest}
 use Rattle.gx_model.specs.Item.{atom, Items}
 use Rattle.gx_model.specs.Belongs.{ValueFits, Belongs}
 use Rattle.gx_core.specs.Outcome.{Outcome, gives, given}
 use Rattle.gx_core.specs.Calling.{value_called, view_of, views_of, text_called, called}
+use Rattle.gx_core.specs.ItemCalling.{item_called}
 use Rattle.gx_core.specs.Soundness.{typed_setting, IsOfType, AreOfTypes, Keeps}
 use Rattle.gx_core.proofs.KeptFacts.{fact_at_once}
-use Rattle.gx_static.specs.Rule.{value_answer_type, first_seen, Ruling, has_type, has_none, atomic, is_at_most_one, type_by, seen_argument, takes_argument, if_taken, arguments_rule, call_rule}
+use Rattle.gx_static.specs.Rule.{value_answer_type, first_seen, item_call_type, Ruling, has_type, has_none, atomic, is_at_most_one, type_by, seen_argument, takes_argument, if_taken, arguments_rule, call_rule}
 use Rattle.gx_static.specs.Laws.{CallKeepsType}
 use Rattle.gx_static.proofs.Comparisons.{truth_keeps}
 use Rattle.gx_static.proofs.BooleanTypes.{HasTruth, is_empty, begins_with_node, is_one_atom, has_truth}
 use Rattle.gx_static.proofs.Singles.{one_atom_belongs}
 use Rattle.gx_static.proofs.Keeping.{ruled}
 use Rattle.gx_static.proofs.ValueCalls.{value_call_keeps}
+use Rattle.gx_static.proofs.ItemCalls.{item_call_keeps}
 use Rattle.gx_static.proofs.TextCalls.{few_items, IsTaken, AreTaken, arguments_have_texts, text_parameters_atomize, text_is_answered}
 
 -- what a function answers: one atomic value of a type
@@ -155,4 +157,8 @@ call_keeps s (functions.OfValues function) is arguments t forest values e honest
     let answer : SequenceType = value_answer_type s function (first_seen s (value_parameters_of function) arguments) in
     let r = arguments_taken s (value_parameters_of function) arguments 0 (has_type answer) t e in
     subst (λ (u : SequenceType). Keeps (typed_setting s) forest u (value_called s function values forest)) (ruled answer t r.1) (value_call_keeps s is forest function arguments r.0 values honest h)
+call_keeps s (functions.OfItems function) is arguments t forest values e honest h =
+    let answer : SequenceType = item_call_type s function (item_parameters_of function) arguments in
+    let r = arguments_taken s (item_parameters_of function) arguments 0 (has_type answer) t e in
+    subst (λ (u : SequenceType). Keeps (typed_setting s) forest u (item_called s function values forest)) (ruled answer t r.1) (item_call_keeps s is forest function arguments r.0 values honest h)
 call_keeps s (functions.OfTexts function) is arguments t forest values e honest h = text_call_keeps s is forest function arguments values t e honest h

@@ -23,7 +23,7 @@ use Rattle.gx_funcs.specs.declared.function.Function.{Function}
 use Rattle.gx_funcs.specs.declared.function.Parameter.{Parameter}
 use Rattle.gx_funcs.specs.declared.function.ParameterType.{ParameterType}
 use Rattle.gx_funcs.specs.declared.function.ParameterType.TheVariants as parameters
-use Rattle.gx_funcs.specs.Function.{parameters_of, value_function_of}
+use Rattle.gx_funcs.specs.Function.{parameters_of}
 use Rattle.gx_core.specs.declared.expression.ArithmeticOp.{ArithmeticOp}
 use Rattle.gx_core.specs.declared.expression.ArithmeticOp.TheVariants as operations
 use Rattle.gx_core.specs.declared.expression.BinaryClass.{BinaryClass}
@@ -46,7 +46,7 @@ use Rattle.gx_core.specs.Soundness.{TypedExpression}
 use Rattle.gx_static.specs.declared.comparison.Family.{Family}
 use Rattle.gx_static.specs.declared.comparison.Family.TheVariants as families
 use Rattle.gx_static.proofs.NormalRules.{seen_is_normal}
-use Rattle.gx_static.specs.Rule.{result_rule, if_taken, seen_argument, Ruling, has_type, has_none, type_if, atomic, all_items, is_atomic_in, is_of_family, is_at_most_one, is_at_least_one, is_all_in, is_optional_in, are_of_one_family, are_comparable_items, integer_if, both_occur, number_type, arithmetic_rule, negation_rule, range_rule, value_comparison_type, value_comparison_rule, general_comparison_rule, binary_rule, conditional_rule, quantifier_rule, order_rule, cast_rule, castable_rule, nodes_type, is_as_written, takes_argument, arguments_rule, call_rule, rule, ruling, allows_clause, allows_key, tuples_occur, returned_rule, clauses_rule, answer_ruling}
+use Rattle.gx_static.specs.Rule.{result_rule, if_taken, seen_argument, Ruling, has_type, has_none, type_if, atomic, all_items, is_atomic_in, is_of_family, is_at_most_one, is_at_least_one, is_all_in, is_optional_in, are_of_one_family, are_comparable_items, integer_if, both_occur, number_type, arithmetic_rule, negation_rule, range_rule, value_comparison_type, value_comparison_rule, general_comparison_rule, binary_rule, conditional_rule, quantifier_rule, order_rule, cast_rule, castable_rule, nodes_type, is_as_written, takes_argument, arguments_rule, call_rule, rule, ruling, allows_clause, allows_key, tuples_occur, returned_rule, clauses_rule, call_answer_ruling}
 use Rattle.gx_static.specs.Judgement.{Judged, typed, rejected, with_typed, judged}
 use Rattle.gx_static.specs.QueryJudgement.{declared_as, declared_where, function_with, declaration_judged, declarations_judged}
 use Rattle.gx_static.specs.NormalTypes.{GivesNormalType, CastsToAtomicType, IsOfKnownType, IsMadeOfItems, IsNormalType, HaveNormalTypes, CastsToAtomicTypes, PartsCastToAtomicTypes, IsNormalThroughout, AreNormalThroughout}
@@ -300,6 +300,8 @@ module _ (s : SchemaSet) (is : IsSchemaSet s) where
   argument_same parameters.Integers t n = any_same (of_type Integer) t n
   argument_same parameters.Values t n = any_same of_atomic t n
   argument_same parameters.OneValue t n = one_same of_atomic t n
+  argument_same parameters.OptionalNode t n = refl
+  argument_same parameters.OneInteger t n = one_same (of_type Integer) t n
 
   taken_same : (p : Parameter) (number : ℕ) (next other : Ruling) (r : Ruling) → GivesNormalType s r → next ≡ other
       → if_taken (takes_argument s p.takes) p.code number next r ≡ if_taken (λ t. is_included s t (taken_type p.takes)) p.code number other r
@@ -316,7 +318,7 @@ module _ (s : SchemaSet) (is : IsSchemaSet s) where
 
   call_same : (function : Function) (ts : List SequenceType) → HoldsOfEach (IsNormalType s) ts → call_rule s function ts ≡ call_included s function ts
   unfolding call_rule
-  call_same function ts n = arguments_same (parameters_of function) ts 0 (answer_ruling s (value_function_of function) function ts) n
+  call_same function ts n = arguments_same (parameters_of function) ts 0 (call_answer_ruling s function ts) n
 
   -- ---- each operator
 

@@ -55,3 +55,5 @@ pub mod ConstructorLemmas
 pub mod TextCalls
 pub mod ValueArguments
 pub mod ValueCalls
+pub mod Roots
+pub mod ItemCalls

@@ -1,5 +1,6 @@
 -- Each rule gives a normal type where the parts have such.
-use Rattle.std.proofs.Common.{◌≡◌, ℕ, ◌+◌, Bool, true, false, ◌&&◌, List, [], ◌∷◌, None, Some, refl, if◌then◌else◌, length, min, ◌==◌, Option}
+use Rattle.std.proofs.Common.{◌≡◌, ℕ, zero, suc, ◌+◌, Bool, true, false, ◌&&◌, List, [], ◌∷◌, None, Some, refl, if◌then◌else◌, length, min, max, ◌==◌, Option}
+use Rattle.std.specs.Prelude.{slice_get}
 use Rattle.gx_types.specs.Choice.{choice_among}
 use Rattle.gx_base.specs.declared.type_name.Builtin.TheVariants.{AnyAtomic, Boolean, Decimal, Integer}
 use Rattle.gx_base.specs.declared.type_name.Builtin.TheVariants as builtins
@@ -31,7 +32,9 @@ use Rattle.gx_funcs.specs.declared.function.Parameter.{Parameter}
 use Rattle.gx_funcs.specs.declared.value_function.ValueFunction.{ValueFunction}
 use Rattle.gx_funcs.specs.declared.value_function.ValueFunction.TheVariants as values
 use Rattle.gx_funcs.specs.declared.function.Conversion.TheVariants.{Data}
-use Rattle.gx_funcs.specs.Function.{parameters_of, text_answer_type_of, value_function_of}
+use Rattle.gx_funcs.specs.declared.item_function.ItemFunction.{ItemFunction}
+use Rattle.gx_funcs.specs.declared.item_function.ItemFunction.TheVariants as over_items
+use Rattle.gx_funcs.specs.Function.{parameters_of, text_answer_type_of, value_function_of, item_function_of}
 use Rattle.gx_core.specs.declared.expression.ArithmeticOp.{ArithmeticOp}
 use Rattle.gx_core.specs.declared.expression.ArithmeticOp.TheVariants.{Div, IDiv}
 use Rattle.gx_core.specs.declared.expression.BinaryClass.{BinaryClass}
@@ -45,7 +48,7 @@ use Rattle.gx_core.specs.declared.constructor.Constructor.{Constructor}
 use Rattle.gx_core.specs.declared.constructor.Constructor.TheVariants as constructors
 use Rattle.gx_core.specs.declared.operator.Operator.TheVariants as operators
 use Rattle.gx_core.specs.BinaryOperators.{class_of}
-use Rattle.gx_static.specs.Rule.{converted_type, converted_arguments_rule, if_atomized, if_all_atomized, only_element_of, constructor_rule, called_type, Ruling, has_type, has_none, type_if, atomic, all_items, is_atomic, is_all_in, is_optional_in, is_at_most_one, is_at_least_one, both_occur, integer_if, number_type, arithmetic_type, compared_occur, are_of_one_family, value_comparison_type, are_comparable_types, shown_type, literal_rule, is_as_written, data_rule, optional_node, nodes_type, set_type, order_rule, takes_argument, arguments_rule, answer_rule, call_rule, binary_rule, is_first, allows_clause, allows_key, tuples_occur, returned_rule, clauses_rule, if_taken, seen_argument, constructed_text, constructed_element, answer_ruling, cast_item, cast_ruling, first_seen, type_ruled, as_optional, value_answer_type}
+use Rattle.gx_static.specs.Rule.{converted_type, converted_arguments_rule, if_atomized, if_all_atomized, only_element_of, constructor_rule, called_type, Ruling, has_type, has_none, type_if, atomic, all_items, is_atomic, is_all_in, is_optional_in, is_at_most_one, is_at_least_one, both_occur, integer_if, number_type, arithmetic_type, compared_occur, are_of_one_family, value_comparison_type, are_comparable_types, shown_type, literal_rule, is_as_written, data_rule, optional_node, nodes_type, set_type, order_rule, takes_argument, arguments_rule, answer_rule, call_rule, binary_rule, is_first, allows_clause, allows_key, tuples_occur, returned_rule, clauses_rule, if_taken, seen_argument, constructed_text, constructed_element, answer_ruling, cast_item, cast_ruling, first_seen, type_ruled, as_optional, value_answer_type, seen_at, type_seen, call_answer_ruling, item_answer_type, as_often, some_of_type}
 use Rattle.gx_funcs.specs.declared.function.ParameterType.{ParameterType}
 use Rattle.gx_funcs.specs.declared.function.ParameterType.TheVariants as parameters
 use Rattle.gx_funcs.specs.declared.text_function.TextFunction.{TextFunction}
@@ -180,6 +183,7 @@ answer_is_normal s functions.Count = integer_is_atomic s
 answer_is_normal s functions.String = nameable_is_atomic s builtins.Str refl
 answer_is_normal s (functions.OfTexts function) = answer_of_texts s function
 answer_is_normal s (functions.OfValues function) = tt
+answer_is_normal s (functions.OfItems function) = tt
 answer_is_normal s _ = boolean_is_atomic s
 
 chosen_is_normal : (s : SchemaSet) (takes : Bool) (given refused : Ruling) → GivesNormalType s given → GivesNormalType s refused → GivesNormalType s (if takes then given else refused)
@@ -209,7 +213,9 @@ pub seen_is_normal : (s : SchemaSet) (takes : ParameterType) (argument : Sequenc
 seen_is_normal s parameters.Items argument is n = n
 seen_is_normal s parameters.OptionalItem argument is n = n
 seen_is_normal s parameters.TruthValue argument is n = n
+seen_is_normal s parameters.OptionalNode argument is n = n
 seen_is_normal s parameters.Integers argument is n = cast_gives_normal s (data_rule s argument) (atomized_is_normal s argument is n)
+seen_is_normal s parameters.OneInteger argument is n = cast_gives_normal s (data_rule s argument) (atomized_is_normal s argument is n)
 seen_is_normal s _ argument is n = atomized_is_normal s argument is n
 
 taken_is_normal : (s : SchemaSet) (takes : SequenceType → Bool) (code : Code) (number : ℕ) (next seen : Ruling) → GivesNormalType s next → GivesNormalType s (if_taken takes code number next seen)
@@ -223,15 +229,21 @@ arguments_are_normal s (parameter ∷ others) (argument ∷ arguments) number ru
     (arguments_are_normal s others arguments (number + 1) ruling n)
 arguments_are_normal s _ _ number ruling n = tt
 
--- the type of the first argument
-first_is_normal : (s : SchemaSet) (parameters : List Parameter) (arguments : List SequenceType) → IsSchemaSet s → HoldsOfEach (IsNormalType s) arguments → IsNormalType s (first_seen s parameters arguments)
-first_is_normal s (parameter ∷ parameters) (argument ∷ arguments) is n = by_ruling (seen_argument s parameter.takes argument) (seen_is_normal s parameter.takes argument is n.0)
+-- the type of an argument with a number
+ruled_type_is_normal : (s : SchemaSet) (r : Ruling) → GivesNormalType s r → IsNormalType s (type_ruled r)
+ruled_type_is_normal s (has_type t) h = h
+ruled_type_is_normal s (has_none code part) h = tt
+
+argument_is_normal : (s : SchemaSet) (parameters : List Parameter) (arguments : List SequenceType) (number : ℕ) → IsSchemaSet s → HoldsOfEach (IsNormalType s) arguments → IsNormalType s (seen_at s parameters arguments number)
+argument_is_normal s (parameter ∷ parameters) (argument ∷ arguments) zero is n = ruled_type_is_normal s (seen_argument s parameter.takes argument) (seen_is_normal s parameter.takes argument is n.0)
+argument_is_normal s (parameter ∷ parameters) (argument ∷ arguments) (suc number) is n = argument_is_normal s parameters arguments number is n.1
+argument_is_normal s [] arguments number is n = tt
+argument_is_normal s (parameter ∷ parameters) [] zero is n = tt
+argument_is_normal s (parameter ∷ parameters) [] (suc number) is n = none_there (slice_get parameters number)
   where
-    by_ruling : (r : Ruling) → GivesNormalType s r → IsNormalType s (type_ruled r)
-    by_ruling (has_type t) h = h
-    by_ruling (has_none code part) h = tt
-first_is_normal s [] arguments is n = tt
-first_is_normal s (parameter ∷ parameters) [] is n = tt
+    none_there : (p : Option Parameter) → IsNormalType s (type_seen s p None)
+    none_there None = tt
+    none_there (Some p) = tt
 
 optional_is_normal : (s : SchemaSet) (argument t : SequenceType) → IsNormalType s t → IsNormalType s (as_optional argument t)
 optional_is_normal s argument t n = times_is_normal s t (occurs (occurrence_of argument).least 1) n
@@ -251,17 +263,44 @@ value_is_normal s values.DistinctValues first n = times_is_normal s (prime_of fi
 value_is_normal s values.IndexOf first n = integer_is_atomic s
 value_is_normal s _ first n = nameable_is_atomic s builtins.Str refl
 
-ruled_is_normal : (s : SchemaSet) (over_values : Option ValueFunction) (function : Function) (arguments : List SequenceType) → IsSchemaSet s → HoldsOfEach (IsNormalType s) arguments
-    → GivesNormalType s (answer_ruling s over_values function arguments)
-ruled_is_normal s None function arguments is n = answer_is_normal s function
-ruled_is_normal s (Some over_values) function arguments is n =
-    value_is_normal s over_values (first_seen s (parameters_of function) arguments) (first_is_normal s (parameters_of function) arguments is n)
+often_is_normal : (s : SchemaSet) (t : SequenceType) → IsNormalType s t → IsNormalType s (as_often t)
+often_is_normal s t n = times_is_normal s (prime_of t) (occurrence_of t) (prime_is_normal s t n)
+
+some_is_normal : (s : SchemaSet) (t : SequenceType) → IsNormalType s t → IsNormalType s (some_of_type t)
+some_is_normal s t n = times_is_normal s (prime_of t) (occurs 0 (occurrence_of t).greatest) (prime_is_normal s t n)
+
+node_is_normal : (s : SchemaSet) → IsNormalType s node_type
+node_is_normal s = (((tt, refl), (0, refl)), tt)
+
+items_are_normal : (s : SchemaSet) (function : ItemFunction) (first third : SequenceType) → IsNormalType s first → IsNormalType s third → IsNormalType s (item_answer_type function first third)
+items_are_normal s over_items.Name first third n m = nameable_is_atomic s builtins.Str refl
+items_are_normal s over_items.LocalName first third n m = nameable_is_atomic s builtins.Str refl
+items_are_normal s over_items.Root first third n m = optional_is_normal s first node_type (node_is_normal s)
+items_are_normal s over_items.Reverse first third n m = often_is_normal s first n
+items_are_normal s over_items.SubsequenceFrom first third n m = some_is_normal s first n
+items_are_normal s over_items.Subsequence first third n m = some_is_normal s first n
+items_are_normal s over_items.Remove first third n m = some_is_normal s first n
+items_are_normal s over_items.InsertBefore first third n m = often_is_normal s (sequence_of first third) (sequence_is_normal s first third n m)
+items_are_normal s over_items.ZeroOrOne first third n m = times_is_normal s (prime_of first) (occurs (occurrence_of first).least (min 1 (occurrence_of first).greatest)) (prime_is_normal s first n)
+items_are_normal s over_items.OneOrMore first third n m = times_is_normal s (prime_of first) (occurs 1 (max 1 (occurrence_of first).greatest)) (prime_is_normal s first n)
+items_are_normal s over_items.ExactlyOne first third n m = prime_is_normal s first n
+items_are_normal s over_items.DeepEqual first third n m = boolean_is_atomic s
+items_are_normal s over_items.Error first third n m = tt
+
+ruled_is_normal : (s : SchemaSet) (over_values : Option ValueFunction) (of_items : Option ItemFunction) (function : Function) (arguments : List SequenceType) → IsSchemaSet s → HoldsOfEach (IsNormalType s) arguments
+    → GivesNormalType s (answer_ruling s over_values of_items function arguments)
+ruled_is_normal s None None function arguments is n = answer_is_normal s function
+ruled_is_normal s None (Some of_items) function arguments is n =
+    items_are_normal s of_items (first_seen s (parameters_of function) arguments) (seen_at s (parameters_of function) arguments 2)
+    (argument_is_normal s (parameters_of function) arguments 0 is n) (argument_is_normal s (parameters_of function) arguments 2 is n)
+ruled_is_normal s (Some over_values) of_items function arguments is n =
+    value_is_normal s over_values (first_seen s (parameters_of function) arguments) (argument_is_normal s (parameters_of function) arguments 0 is n)
 
 call_is_normal : (s : SchemaSet) (function : Function) (arguments : List SequenceType) → IsSchemaSet s → HoldsOfEach (IsNormalType s) arguments → GivesNormalType s (call_rule s function arguments)
 unfolding call_rule
 call_is_normal s function arguments is n =
-    arguments_are_normal s (parameters_of function) arguments 0 (answer_ruling s (value_function_of function) function arguments)
-    (ruled_is_normal s (value_function_of function) function arguments is n)
+    arguments_are_normal s (parameters_of function) arguments 0 (call_answer_ruling s function arguments)
+    (ruled_is_normal s (value_function_of function) (item_function_of function) function arguments is n)
 
 -- ---- calls of declared functions
 

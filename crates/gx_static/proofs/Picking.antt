@@ -49,7 +49,7 @@ fewer_behind zero xs = omega arith
 fewer_behind (suc n) [] = omega arith
 fewer_behind (suc n) (x ∷ xs) = omega (arith, fewer_behind n xs)
 
-each_turned : (s : SchemaSet) (forest : Forest) (t : SequenceType) (xs ys : Items) → EachBelongs s forest t xs → EachBelongs s forest t ys → EachBelongs s forest t (reverse_aux xs ys)
+pub each_turned : (s : SchemaSet) (forest : Forest) (t : SequenceType) (xs ys : Items) → EachBelongs s forest t xs → EachBelongs s forest t ys → EachBelongs s forest t (reverse_aux xs ys)
 each_turned s forest t [] ys h k = k
 each_turned s forest t (x ∷ xs) ys h k = each_turned s forest t xs (x ∷ ys) h.1 (h.0, k)
 
@@ -75,7 +75,7 @@ one_allowed (suc n) count h k = omega arith
 abbrev pub IsCertain : Bool → (xs picked : Items) → Type 0
 IsCertain certain xs picked = certain ≡ true → 1 ≤ length xs → 1 ≤ length picked
 
-one_belongs : (s : SchemaSet) (forest : Forest) (t : SequenceType) (o : Occurs) (x : Item) → Allows o 1 → Belongs s forest (x ∷ []) t → Belongs s forest (x ∷ []) (times_of t o)
+pub one_belongs : (s : SchemaSet) (forest : Forest) (t : SequenceType) (o : Occurs) (x : Item) → Allows o 1 → Belongs s forest (x ∷ []) t → Belongs s forest (x ∷ []) (times_of t o)
 one_belongs s forest t o x a b = joined_belongs_times s forest t o 1 (x ∷ []) b.seen a b.shaped (record { parts = b.seen ∷ []; joined = sym (append-nil b.seen); each = (b.taken, tt); count = refl })
 
 none_belongs : (s : SchemaSet) (forest : Forest) (t : SequenceType) (o : Occurs) → Allows o 0 → Belongs s forest [] (times_of t o)

@@ -32,7 +32,9 @@ use Rattle.gx_funcs.specs.declared.value_function.ValueFunction.{ValueFunction}
 use Rattle.gx_funcs.specs.declared.value_function.ValueFunction.TheVariants as values
 use Rattle.gx_funcs.specs.declared.function.Conversion.{Conversion}
 use Rattle.gx_funcs.specs.declared.function.Conversion.TheVariants.{Nothing, Data, DataAndCast}
-use Rattle.gx_funcs.specs.Function.{value_function_of, parameters_of, text_parameters_of, value_at_most, value_parameters_of, conversion_of}
+use Rattle.gx_funcs.specs.declared.item_function.ItemFunction.{ItemFunction}
+use Rattle.gx_funcs.specs.declared.item_function.ItemFunction.TheVariants as over_items
+use Rattle.gx_funcs.specs.Function.{value_function_of, item_function_of, parameters_of, text_parameters_of, value_at_most, value_parameters_of, item_parameters_of, conversion_of}
 use Rattle.gx_core.specs.declared.expression.BinaryClass.{BinaryClass}
 use Rattle.gx_core.specs.declared.expression.BinaryClass.TheVariants as classes
 use Rattle.gx_core.specs.BinaryOperators.{class_of}
@@ -48,7 +50,7 @@ use Rattle.gx_core.specs.Expression.{CoreExpression, At, Parts, no_parts, a_part
 use Rattle.gx_core.specs.Bindings.{look_up, Types, types_bound, numbers_bound_by, branch_numbers, branch_types, position_bound, position_numbers, clause_types_bound, clause_numbers_bound, block_types_bound, block_numbers_bound}
 use Rattle.gx_core.specs.Invariant.{is_among, IsInScope, IsScoped, ArePartsScoped}
 use Rattle.gx_core.specs.Converting.{expected_atomic}
-use Rattle.gx_static.specs.Rule.{answer_ruling, cast_ruling, converted_ruling, converted_type, converted_arguments_rule, Ruling, if_atomized, if_all_atomized, constructor_rule, called_type, has_type, has_none, all_items, is_atomic, nodes_type, step_rule, reaching, step_ruling, order_rule, data_rule, binary_rule, takes_argument, arguments_rule, answer_rule, call_rule, ruling, variable_ruling, allows_clause, allows_key, tuples_occur, returned_rule, clauses_rule, if_taken, seen_argument, constructed_text, type_by}
+use Rattle.gx_static.specs.Rule.{answer_ruling, call_answer_ruling, cast_ruling, converted_ruling, converted_type, converted_arguments_rule, Ruling, if_atomized, if_all_atomized, constructor_rule, called_type, has_type, has_none, all_items, is_atomic, nodes_type, step_rule, reaching, step_ruling, order_rule, data_rule, binary_rule, takes_argument, arguments_rule, answer_rule, call_rule, ruling, variable_ruling, allows_clause, allows_key, tuples_occur, returned_rule, clauses_rule, if_taken, seen_argument, constructed_text, type_by}
 use Rattle.gx_static.specs.Judgement.{typed, with_typed, concluded, judged, parts_judged}
 use Rattle.gx_static.specs.Laws.{ScopedVariablesHaveTypes}
 use Rattle.gx_static.proofs.Failing.{IfRejected, made_fails, own_fails}
@@ -111,6 +113,15 @@ value_parameters_code values.NormalizeTo = (λ e. cc, (λ e. cc, tt))
 value_parameters_code values.IndexOf = (λ e. cc, (λ e. cc, tt))
 value_parameters_code _ = (λ e. cc, tt)
 
+item_parameters_code : (function : ItemFunction) → HaveOtherCodes (item_parameters_of function)
+item_parameters_code over_items.SubsequenceFrom = (λ e. cc, (λ e. cc, tt))
+item_parameters_code over_items.Subsequence = (λ e. cc, (λ e. cc, (λ e. cc, tt)))
+item_parameters_code over_items.Remove = (λ e. cc, (λ e. cc, tt))
+item_parameters_code over_items.InsertBefore = (λ e. cc, (λ e. cc, (λ e. cc, tt)))
+item_parameters_code over_items.DeepEqual = (λ e. cc, (λ e. cc, tt))
+item_parameters_code over_items.Error = tt
+item_parameters_code _ = (λ e. cc, tt)
+
 parameters_code : (function : Function) → HaveOtherCodes (parameters_of function)
 parameters_code functions.True = tt
 parameters_code functions.False = tt
@@ -118,6 +129,7 @@ parameters_code functions.Position = tt
 parameters_code functions.Last = tt
 parameters_code (functions.OfTexts function) = text_parameters_code function
 parameters_code (functions.OfValues function) = value_parameters_code function
+parameters_code (functions.OfItems function) = item_parameters_code function
 parameters_code _ = (λ e. cc, tt)
 
 answer_code : (found : Option Builtin) (code : Code) (part : Option ℕ) → answer_rule found ≡ has_none code part → code ≢ XPST0008
@@ -159,15 +171,17 @@ arguments_code s (p ∷ ps) (t ∷ ts) number r code part h k e =
     taken_code (takes_argument s p.takes) p.code number (arguments_rule s ps ts (number + 1) r) (seen_argument s p.takes t) code part h.0 (λ other there l. seen_code s p.takes t other there l)
     (λ l. arguments_code s ps ts (number + 1) r code part h.1 k l) e
 
-ruled_code : (s : SchemaSet) (over_values : Option ValueFunction) (function : Function) (ts : List SequenceType) (code : Code) (part : Option ℕ) → answer_ruling s over_values function ts ≡ has_none code part → code ≢ XPST0008
-ruled_code s None function ts code part e = answer_code (called_type function) code part e
-ruled_code s (Some over_values) function ts code part e = absurd (cc)
+ruled_code : (s : SchemaSet) (over_values : Option ValueFunction) (of_items : Option ItemFunction) (function : Function) (ts : List SequenceType) (code : Code) (part : Option ℕ)
+    → answer_ruling s over_values of_items function ts ≡ has_none code part → code ≢ XPST0008
+ruled_code s None None function ts code part e = answer_code (called_type function) code part e
+ruled_code s None (Some of_items) function ts code part e = absurd (cc)
+ruled_code s (Some over_values) of_items function ts code part e = absurd (cc)
 
 call_code : (s : SchemaSet) (function : Function) (ts : List SequenceType) (code : Code) (part : Option ℕ) → call_rule s function ts ≡ has_none code part → code ≢ XPST0008
 unfolding call_rule
 call_code s function ts code part e =
-    arguments_code s (parameters_of function) ts 0 (answer_ruling s (value_function_of function) function ts) code part (parameters_code function)
-    (λ k. ruled_code s (value_function_of function) function ts code part k) e
+    arguments_code s (parameters_of function) ts 0 (call_answer_ruling s function ts) code part (parameters_code function)
+    (λ k. ruled_code s (value_function_of function) (item_function_of function) function ts code part k) e
 
 -- a step from a variable that has a type
 another_code : (given code : Code) (there part : Option ℕ) → given ≢ XPST0008 → has_none given there ≡ has_none code part → code ≢ XPST0008

@@ -33,7 +33,9 @@ use Rattle.gx_funcs.specs.declared.value_function.ValueFunction.{ValueFunction}
 use Rattle.gx_funcs.specs.declared.value_function.ValueFunction.TheVariants as values
 use Rattle.gx_funcs.specs.declared.function.Conversion.{Conversion}
 use Rattle.gx_funcs.specs.declared.function.Conversion.TheVariants.{Nothing, Data, DataAndCast}
-use Rattle.gx_funcs.specs.Function.{parameters_of, text_parameters_of, value_at_most, value_parameters_of, value_function_of, conversion_of}
+use Rattle.gx_funcs.specs.declared.item_function.ItemFunction.{ItemFunction}
+use Rattle.gx_funcs.specs.declared.item_function.ItemFunction.TheVariants as over_items
+use Rattle.gx_funcs.specs.Function.{parameters_of, text_parameters_of, value_at_most, value_parameters_of, item_parameters_of, value_function_of, item_function_of, conversion_of}
 use Rattle.gx_core.specs.declared.expression.BinaryClass.{BinaryClass}
 use Rattle.gx_core.specs.declared.expression.BinaryClass.TheVariants as classes
 use Rattle.gx_core.specs.declared.expression.Binder.{Binder}
@@ -53,7 +55,7 @@ use Rattle.gx_core.specs.Bindings.{look_up, Types, types_bound}
 use Rattle.gx_core.specs.QueryMeaning.{global_types, types_declared, parameter_types}
 use Rattle.gx_core.specs.Soundness.{TypedExpression}
 use Rattle.gx_core.specs.Converting.{expected_atomic}
-use Rattle.gx_static.specs.Rule.{included_ruling, result_rule, cast_ruling, converted_ruling, converted_type, converted_arguments_rule, if_atomized, if_all_atomized, constructor_rule, called_type, Ruling, has_type, has_none, all_items, is_atomic, is_as_written, nodes_type, step_rule, reaching, step_ruling, order_rule, data_rule, binary_rule, takes_argument, arguments_rule, answer_rule, call_rule, ruling, variable_ruling, allows_clause, allows_key, tuples_occur, returned_rule, clauses_rule, if_taken, seen_argument, constructed_text, type_by, answer_ruling}
+use Rattle.gx_static.specs.Rule.{included_ruling, result_rule, cast_ruling, converted_ruling, converted_type, converted_arguments_rule, if_atomized, if_all_atomized, constructor_rule, called_type, Ruling, has_type, has_none, all_items, is_atomic, is_as_written, nodes_type, step_rule, reaching, step_ruling, order_rule, data_rule, binary_rule, takes_argument, arguments_rule, answer_rule, call_rule, ruling, variable_ruling, allows_clause, allows_key, tuples_occur, returned_rule, clauses_rule, if_taken, seen_argument, constructed_text, type_by, answer_ruling, call_answer_ruling}
 use Rattle.gx_static.specs.Judgement.{typed, rejected, with_typed, concluded, judged, parts_judged}
 use Rattle.gx_settling.specs.Reaching.{function_uses}
 use Rattle.gx_static.specs.QueryJudgement.{declared_as, declared_where, function_with, declaration_judged, declarations_judged, core_typed, first_unsettled, unless_unsettled, core_judged, QueriesAreRejectedWithStaticCodes}
@@ -143,6 +145,15 @@ value_parameters_static values.NormalizeTo = (refl, (refl, tt))
 value_parameters_static values.IndexOf = (refl, (refl, tt))
 value_parameters_static _ = (refl, tt)
 
+item_parameters_static : (function : ItemFunction) → HaveStaticCodes (item_parameters_of function)
+item_parameters_static over_items.SubsequenceFrom = (refl, (refl, tt))
+item_parameters_static over_items.Subsequence = (refl, (refl, (refl, tt)))
+item_parameters_static over_items.Remove = (refl, (refl, tt))
+item_parameters_static over_items.InsertBefore = (refl, (refl, (refl, tt)))
+item_parameters_static over_items.DeepEqual = (refl, (refl, tt))
+item_parameters_static over_items.Error = tt
+item_parameters_static _ = (refl, tt)
+
 parameters_static : (function : Function) → HaveStaticCodes (parameters_of function)
 parameters_static functions.True = tt
 parameters_static functions.False = tt
@@ -150,6 +161,7 @@ parameters_static functions.Position = tt
 parameters_static functions.Last = tt
 parameters_static (functions.OfTexts function) = text_parameters_static function
 parameters_static (functions.OfValues function) = value_parameters_static function
+parameters_static (functions.OfItems function) = item_parameters_static function
 parameters_static _ = (refl, tt)
 
 static_answer : (found : Option Builtin) → RulesStatically (answer_rule found)
@@ -183,12 +195,13 @@ static_arguments s (p ∷ ps) (t ∷ ts) number r h k =
 static_call : (s : SchemaSet) (function : Function) (ts : List SequenceType) → RulesStatically (call_rule s function ts)
 unfolding call_rule
 static_call s function ts =
-    static_arguments s (parameters_of function) ts 0 (answer_ruling s (value_function_of function) function ts) (parameters_static function)
-    (static_ruled (value_function_of function))
+    static_arguments s (parameters_of function) ts 0 (call_answer_ruling s function ts) (parameters_static function)
+    (static_ruled (value_function_of function) (item_function_of function))
   where
-    static_ruled : (over_values : Option ValueFunction) → RulesStatically (answer_ruling s over_values function ts)
-    static_ruled None = static_answer (called_type function)
-    static_ruled (Some over_values) = tt
+    static_ruled : (over_values : Option ValueFunction) (of_items : Option ItemFunction) → RulesStatically (answer_ruling s over_values of_items function ts)
+    static_ruled None None = static_answer (called_type function)
+    static_ruled None (Some of_items) = tt
+    static_ruled (Some over_values) of_items = tt
 
 -- ---- calls of declared functions
 

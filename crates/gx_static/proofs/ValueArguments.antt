@@ -21,7 +21,7 @@ use Rattle.gx_model.specs.Honest.{IsHonest}
 use Rattle.gx_model.specs.Item.{Item, atom, Items, atoms}
 use Rattle.gx_model.specs.Belongs.{Belongs}
 use Rattle.gx_model.proofs.PublicLaws.{growth_is_an_order, values_stay}
-use Rattle.gx_core.specs.Calling.{argument_by, argument_values, all_argument_values}
+use Rattle.gx_core.specs.Arguments.{argument_by, argument_values, all_argument_values}
 use Rattle.gx_core.specs.Comparing.{atoms_among}
 use Rattle.gx_core.specs.Outcome.{gives, after, given}
 use Rattle.gx_core.specs.Soundness.{typed_setting, AreOfTypes, IsOfType, Keeps, KeepsFact}
@@ -31,6 +31,7 @@ use Rattle.gx_static.specs.declared.comparison.Family.TheVariants as families
 use Rattle.gx_static.specs.Rule.{has_type, all_items, is_atomic, is_atomic_in, is_all_in, is_of_family, is_at_most_one, is_at_least_one, type_by, takes_argument}
 use Rattle.gx_static.proofs.Comparisons.{atoms_are_among}
 use Rattle.gx_static.proofs.ItemLemmas.{EachItem, IsAtom, items_are_atoms}
+use Rattle.gx_static.proofs.Keeping.{ruled}
 use Rattle.gx_static.proofs.TextCalls.{AreTaken, atomized_type}
 use Rattle.gx_static.proofs.UserCalls.{converted_keeps}
 
@@ -73,6 +74,7 @@ taken_is_atomic : (s : SchemaSet) (takes : ParameterType) (u : SequenceType) →
 taken_is_atomic s parameters.Items u n e = absurd (n refl)
 taken_is_atomic s parameters.OptionalItem u n e = absurd (n refl)
 taken_is_atomic s parameters.TruthValue u n e = absurd (n refl)
+taken_is_atomic s parameters.OptionalNode u n e = absurd (n refl)
 taken_is_atomic s parameters.OptionalText u n e = all_texts s u (and_parts (is_at_most_one u) (all_items (is_of_family s families.Text) u) e).1
 taken_is_atomic s parameters.OneText u n e = all_texts s u (and_parts (is_at_least_one u && is_at_most_one u) (all_items (is_of_family s families.Text) u) e).1
 taken_is_atomic s parameters.Texts u n e = all_texts s u e
@@ -83,6 +85,8 @@ taken_is_atomic s parameters.Numbers u n e = all_numbers s u e
 taken_is_atomic s parameters.Integers u n e = all_weaker (is_atomic_in s Integer) is_atomic (integer_is_atomic s) u e
 taken_is_atomic s parameters.Values u n e = e
 taken_is_atomic s parameters.OneValue u n e = (and_parts (is_at_least_one u && is_at_most_one u) (all_items is_atomic u) e).1
+taken_is_atomic s parameters.OneInteger u n e =
+    all_weaker (is_atomic_in s Integer) is_atomic (integer_is_atomic s) u (and_parts (is_at_least_one u && is_at_most_one u) (is_all_in s Integer u) e).1
 
 -- ---- the values of an argument
 
@@ -99,21 +103,21 @@ atoms_found (x ∷ xs) h =
 abbrev pub AreValuesOf : SchemaSet → SequenceType → Forest → List Atomic → Type 0
 AreValuesOf s t forest values = Belongs s forest (atoms values) t
 
-by_keeps : (s : SchemaSet) → IsSchemaSet s → (conversion : Conversion) (a u : SequenceType) (forest : Forest) (xs : Items) → IsHonest s forest → (conversion ≡ Nothing → ⊥)
+pub argument_keeps : (s : SchemaSet) → IsSchemaSet s → (conversion : Conversion) (a u : SequenceType) (forest : Forest) (xs : Items) → IsHonest s forest
     → type_by s conversion a ≡ has_type u → Belongs s forest xs a → Keeps (typed_setting s) forest u (argument_by conversion s xs forest)
-by_keeps s is Nothing a u forest xs honest n e b = absurd (n refl)
-by_keeps s is Data a u forest xs honest n e b =
+argument_keeps s is Nothing a u forest xs honest e b = fact_at_once (typed_setting s) forest (IsOfType s u) xs honest (subst (λ (t : SequenceType). Belongs s forest xs t) (ruled a u e) b)
+argument_keeps s is Data a u forest xs honest e b =
     let d = atomized_type s a u e in
     let v = data_keeps_its_type s forest xs a is honest d.0 b in
     subst (λ (o : Option Items). Keeps (typed_setting s) forest u (given o (λ ys. gives ys forest))) (sym v.are)
     (fact_at_once (typed_setting s) forest (IsOfType s u) v.values honest (subst (λ (t : SequenceType). Belongs s forest v.values t) d.1 v.belong))
-by_keeps s is (DataAndCast kind) a u forest xs honest n e b = converted_keeps s is (Some (names.Builtin kind)) a u forest xs honest e b
+argument_keeps s is (DataAndCast kind) a u forest xs honest e b = converted_keeps s is (Some (names.Builtin kind)) a u forest xs honest e b
 
-values_keep : (s : SchemaSet) → IsSchemaSet s → (conversion : Conversion) (a u : SequenceType) (forest : Forest) (xs : Items) → IsHonest s forest → (conversion ≡ Nothing → ⊥)
+values_keep : (s : SchemaSet) → IsSchemaSet s → (conversion : Conversion) (a u : SequenceType) (forest : Forest) (xs : Items) → IsHonest s forest
     → type_by s conversion a ≡ has_type u → all_items is_atomic u ≡ true → Belongs s forest xs a → KeepsFact (typed_setting s) forest (AreValuesOf s u) (argument_values conversion s xs forest)
-values_keep s is conversion a u forest xs honest n e atomic b =
+values_keep s is conversion a u forest xs honest e atomic b =
     fact_after (typed_setting s) forest (IsOfType s u) (AreValuesOf s u) (argument_by conversion s xs forest) (λ ys left. given (atoms_among ys) (λ values. gives values left))
-    (by_keeps s is conversion a u forest xs honest n e b)
+    (argument_keeps s is conversion a u forest xs honest e b)
     (λ ys left grown still c. let r = atoms_found ys (items_are_atoms s left ys u atomic c) in
     subst (λ (o : Option (List Atomic)). KeepsFact (typed_setting s) left (AreValuesOf s u) (given o (λ values. gives values left))) (sym (ap atoms_among r.are ∙ atoms_are_among r.values))
     (fact_at_once (typed_setting s) left (AreValuesOf s u) r.values still (subst (λ (zs : Items). Belongs s left zs u) r.are c)))
@@ -141,7 +145,7 @@ all_values_keep s is (p ∷ ps) (a ∷ arguments) taken (xs ∷ xss) before fore
     let u : SequenceType = taken.0.seen in
     fact_after (typed_setting s) forest (AreValuesOf s u) (AreSeen s (p ∷ ps) (a ∷ arguments) taken) (argument_values (conversion_of p.takes) s xs forest)
     (λ values left. after (all_argument_values s ps xss left) (λ others last. gives (values ∷ others) last))
-    (values_keep s is (conversion_of p.takes) a u forest xs honest n.0 taken.0.as_seen (taken_is_atomic s p.takes u n.0 taken.0.taken) (values_stay s before forest xs a grown b.0))
+    (values_keep s is (conversion_of p.takes) a u forest xs honest taken.0.as_seen (taken_is_atomic s p.takes u n.0 taken.0.taken) (values_stay s before forest xs a grown b.0))
     (λ values left more still one. fact_after (typed_setting s) left (AreSeen s ps arguments taken.1) (AreSeen s (p ∷ ps) (a ∷ arguments) taken) (all_argument_values s ps xss left) (λ others last. gives (values ∷ others) last)
     (all_values_keep s is ps arguments taken.1 xss before left n.1 (growth_is_an_order.transitive before forest left grown more) still b.1)
     (λ others last further again rest. fact_at_once (typed_setting s) last (AreSeen s (p ∷ ps) (a ∷ arguments) taken) (values ∷ others) again (values_stay s left last (atoms values) u further one, rest)))

@@ -39,7 +39,8 @@ use Rattle.gx_model.specs.Honest.{IsHonest}
 use Rattle.gx_model.specs.Item.{atom, Items, atoms}
 use Rattle.gx_model.specs.Belongs.{Belongs, HaveShapes}
 use Rattle.gx_model.proofs.PublicLaws.{growth_is_an_order}
-use Rattle.gx_core.specs.Calling.{answered, all_argument_values, value_called}
+use Rattle.gx_core.specs.Arguments.{all_argument_values}
+use Rattle.gx_core.specs.Calling.{answered, value_called}
 use Rattle.gx_core.specs.Outcome.{given}
 use Rattle.gx_core.specs.Soundness.{typed_setting, AreOfTypes, IsOfType, Keeps}
 use Rattle.gx_core.proofs.KeptFacts.{fact_after, fact_at_once}
@@ -92,7 +93,7 @@ each_joined s forest t (x ∷ xs) h =
       record { parts = h.0.seen ∷ r.2.parts; joined = ap (λ ss. h.0.seen ++ ss) r.2.joined; each = (h.0.taken, r.2.each); count = ap suc r.2.count },
     )
 
-each_belongs_times : (s : SchemaSet) (forest : Forest) (t : SequenceType) (o : Occurs) (xs : Items) → EachBelongs s forest t xs → Allows o (length xs) → Belongs s forest xs (times_of t o)
+pub each_belongs_times : (s : SchemaSet) (forest : Forest) (t : SequenceType) (o : Occurs) (xs : Items) → EachBelongs s forest t xs → Allows o (length xs) → Belongs s forest xs (times_of t o)
 each_belongs_times s forest t o xs h w = let r = each_joined s forest t xs h in joined_belongs_times s forest t o (length xs) xs r.0 w r.1 r.2
 
 any_count : (n : ℕ) → Allows (occurs 0 2) n
@@ -164,7 +165,7 @@ sum_is_answer s forest u a e b =
     (if_whole s (is_all_in s Integer u) n (λ whole. added_whole s k.numbers (Int (pos 0)) n (pos 0, refl) (k.whole (items_are_in s forest Integer (atoms a) u whole b)) same))))
 
 -- one value, or none where there may be none
-one_allowed : (u : SequenceType) → Allows (occurs (occurrence_of u).least 1) 1
+pub one_allowed : (u : SequenceType) → Allows (occurs (occurrence_of u).least 1) 1
 one_allowed u = record { least = least_is_small u; greatest = λ g. omega arith }
 
 none_allowed : (s : SchemaSet) (forest : Forest) (u : SequenceType) (a : List Atomic) → length a ≡ 0 → Belongs s forest (atoms a) u → Allows (occurs (occurrence_of u).least 1) 0

@@ -19,7 +19,7 @@ use Rattle.gx_funcs.specs.declared.function.Function.{Function}
 use Rattle.gx_funcs.specs.declared.function.Parameter.{Parameter}
 use Rattle.gx_funcs.specs.declared.function.ParameterType.{ParameterType}
 use Rattle.gx_funcs.specs.declared.function.ParameterType.TheVariants as parameters
-use Rattle.gx_funcs.specs.Function.{parameters_of, value_function_of}
+use Rattle.gx_funcs.specs.Function.{parameters_of}
 use Rattle.gx_core.specs.declared.expression.ArithmeticOp.{ArithmeticOp}
 use Rattle.gx_core.specs.declared.expression.ArithmeticOp.TheVariants.{Div, IDiv}
 use Rattle.gx_core.specs.declared.expression.BinaryClass.{BinaryClass}
@@ -40,7 +40,7 @@ use Rattle.gx_core.specs.QueryMeaning.{global_types, types_declared, parameter_t
 use Rattle.gx_core.specs.Soundness.{TypedExpression}
 use Rattle.gx_static.specs.declared.comparison.Family.{Family}
 use Rattle.gx_static.specs.declared.comparison.Family.TheVariants as families
-use Rattle.gx_static.specs.Rule.{Ruling, has_type, has_none, type_if, atomic, all_items, integer_if, both_occur, value_comparison_type, boolean_types, nodes_type, answer_ruling, seen_argument, if_taken, rule, ruling, is_as_written, node_comparison_rule, set_rule, tuples_occur, returned_rule, clauses_rule}
+use Rattle.gx_static.specs.Rule.{Ruling, has_type, has_none, type_if, atomic, all_items, integer_if, both_occur, value_comparison_type, boolean_types, nodes_type, optional_node, call_answer_ruling, seen_argument, if_taken, rule, ruling, is_as_written, node_comparison_rule, set_rule, tuples_occur, returned_rule, clauses_rule}
 use Rattle.gx_static.specs.Demands.{family_type}
 use Rattle.gx_static.specs.Judgement.{typed, judged, parts_judged}
 use Rattle.gx_static.specs.NormalTypes.{IsNormalType, HaveNormalTypes, CastsToAtomicTypes}
@@ -166,6 +166,8 @@ taken_type parameters.Numbers = star (atomic Decimal)
 taken_type parameters.Integers = star (atomic Integer)
 taken_type parameters.Values = star (atomic AnyAtomic)
 taken_type parameters.OneValue = atomic AnyAtomic
+taken_type parameters.OptionalNode = optional_node
+taken_type parameters.OneInteger = atomic Integer
 
 abbrev pub arguments_included : SchemaSet → List Parameter → List SequenceType → (number : ℕ) → Ruling → Ruling
 arguments_included schemas [] [] number ruling = ruling
@@ -176,7 +178,7 @@ arguments_included schemas _ _ number ruling = has_none XPTY0004 None
 
 abbrev pub call_included : SchemaSet → Function → List SequenceType → Ruling
 call_included schemas function arguments =
-    arguments_included schemas (parameters_of function) arguments 0 (answer_ruling schemas (value_function_of function) function arguments)
+    arguments_included schemas (parameters_of function) arguments 0 (call_answer_ruling schemas function arguments)
 
 -- ---- each operator; the rules of all others name inclusion, or demand nothing of an operand
 

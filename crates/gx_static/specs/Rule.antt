@@ -1,5 +1,5 @@
 -- The static rules: the type that an operator has, from the types of its parts (XQuery 1.0 and XPath 2.0 Formal Semantics, section 4).
-use Rattle.std.specs.Prelude.{ℕ, zero, suc, ◌+◌, ℤ, pos, min, nat_le, ◌==◌, Bool, true, false, ◌&&◌, ◌||◌, not, List, [], ◌∷◌, length, Option, None, Some, if◌then◌else◌, ◌*◌}
+use Rattle.std.specs.Prelude.{ℕ, zero, suc, ◌+◌, ℤ, pos, min, max, nat_le, slice_get, ◌==◌, Bool, true, false, ◌&&◌, ◌||◌, not, List, [], ◌∷◌, length, Option, None, Some, if◌then◌else◌, ◌*◌}
 use Rattle.gx_base.specs.declared.code.Code.{Code}
 use Rattle.gx_base.specs.declared.code.Code.TheVariants.{XPTY0004, XPST0005, XPST0008, XPTY0018, XPTY0019, XPTY0020, XPDY0002, XQTY0024, FOTY0012}
 use Rattle.gx_base.specs.declared.type_name.Builtin.{Builtin}
@@ -37,7 +37,9 @@ use Rattle.gx_funcs.specs.declared.function.Conversion.{Conversion}
 use Rattle.gx_funcs.specs.declared.function.Conversion.TheVariants.{Nothing, Data, DataAndCast}
 use Rattle.gx_funcs.specs.declared.value_function.ValueFunction.{ValueFunction}
 use Rattle.gx_funcs.specs.declared.value_function.ValueFunction.TheVariants as values
-use Rattle.gx_funcs.specs.Function.{parameters_of, value_function_of, conversion_of, arity_of, answer_type_of}
+use Rattle.gx_funcs.specs.declared.item_function.ItemFunction.{ItemFunction}
+use Rattle.gx_funcs.specs.declared.item_function.ItemFunction.TheVariants as over_items
+use Rattle.gx_funcs.specs.Function.{parameters_of, value_function_of, item_function_of, conversion_of, arity_of, answer_type_of}
 use Rattle.gx_core.specs.declared.expression.ArithmeticOp.{ArithmeticOp}
 use Rattle.gx_core.specs.declared.expression.ArithmeticOp.TheVariants.{Div, IDiv}
 use Rattle.gx_core.specs.declared.expression.BinaryClass.{BinaryClass}
@@ -360,6 +362,8 @@ takes_argument schemas parameters.Numbers argument = is_all_in schemas Decimal a
 takes_argument schemas parameters.Integers argument = is_all_in schemas Integer argument
 takes_argument schemas parameters.Values argument = all_items is_atomic argument
 takes_argument schemas parameters.OneValue argument = is_at_least_one argument && is_at_most_one argument && all_items is_atomic argument
+takes_argument schemas parameters.OptionalNode argument = is_included schemas argument optional_node
+takes_argument schemas parameters.OneInteger argument = is_at_least_one argument && is_at_most_one argument && is_all_in schemas Integer argument
 
 -- what follows an argument that its parameter takes; the codes of the others stand at them
 abbrev pub if_taken : (takes : SequenceType → Bool) → Code → (number : ℕ) → (next : Ruling) → (argument : Ruling) → Ruling
@@ -388,14 +392,21 @@ abbrev pub answer_rule : Option Builtin → Ruling
 answer_rule None = has_none XPTY0004 None
 answer_rule (Some builtin) = has_type (atomic builtin)
 
--- the type of the first argument as its parameter asks for it, if it has one
+-- the type of an argument as its parameter asks for it, if it has one
 abbrev pub type_ruled : Ruling → SequenceType
 type_ruled (has_type t) = t
 type_ruled (has_none code part) = never
 
+abbrev pub type_seen : SchemaSet → Option Parameter → Option SequenceType → SequenceType
+type_seen schemas (Some parameter) (Some argument) = type_ruled (seen_argument schemas parameter.takes argument)
+type_seen schemas _ _ = never
+
+-- that of the argument with a number, counted from 0
+abbrev pub seen_at : SchemaSet → List Parameter → List SequenceType → (number : ℕ) → SequenceType
+seen_at schemas parameters arguments number = type_seen schemas (slice_get parameters number) (slice_get arguments number)
+
 abbrev pub first_seen : SchemaSet → List Parameter → List SequenceType → SequenceType
-first_seen schemas (parameter ∷ parameters) (argument ∷ arguments) = type_ruled (seen_argument schemas parameter.takes argument)
-first_seen schemas _ _ = never
+first_seen schemas parameters arguments = seen_at schemas parameters arguments 0
 
 -- one value, or none where an argument may have none
 abbrev pub as_optional : (argument : SequenceType) → SequenceType → SequenceType
@@ -421,14 +432,52 @@ value_answer_type schemas values.DistinctValues first = times_of (prime_of first
 value_answer_type schemas values.IndexOf first = star (atomic Integer)
 value_answer_type schemas function first = atomic builtins.Str
 
-abbrev pub answer_ruling : SchemaSet → Option ValueFunction → Function → List SequenceType → Ruling
-answer_ruling schemas None function arguments = answer_rule (called_type function)
-answer_ruling schemas (Some over_values) function arguments =
+-- items of a type, as often as it occurs
+abbrev pub as_often : SequenceType → SequenceType
+as_often t = times_of (prime_of t) (occurrence_of t)
+
+-- some of them, or none
+abbrev pub some_of_type : SequenceType → SequenceType
+some_of_type t = times_of (prime_of t) (occurs 0 (occurrence_of t).greatest)
+
+-- items of a type, of which there is one at least
+abbrev pub at_least_one_of : SequenceType → SequenceType
+at_least_one_of t = times_of (prime_of t) (occurs 1 (max 1 (occurrence_of t).greatest))
+
+-- the type of what a function over items answers, from those of its first and its third argument
+abbrev pub item_answer_type : ItemFunction → (first third : SequenceType) → SequenceType
+item_answer_type over_items.Name first third = atomic builtins.Str
+item_answer_type over_items.LocalName first third = atomic builtins.Str
+item_answer_type over_items.Root first third = as_optional first node_type
+item_answer_type over_items.Reverse first third = as_often first
+item_answer_type over_items.SubsequenceFrom first third = some_of_type first
+item_answer_type over_items.Subsequence first third = some_of_type first
+item_answer_type over_items.Remove first third = some_of_type first
+item_answer_type over_items.InsertBefore first third = as_often (sequence_of first third)
+item_answer_type over_items.ZeroOrOne first third = one_of_type true first
+item_answer_type over_items.OneOrMore first third = at_least_one_of first
+item_answer_type over_items.ExactlyOne first third = prime_of first
+item_answer_type over_items.DeepEqual first third = atomic Boolean
+item_answer_type over_items.Error first third = never
+
+abbrev pub item_call_type : SchemaSet → ItemFunction → List Parameter → List SequenceType → SequenceType
+item_call_type schemas function parameters arguments =
+    item_answer_type function (first_seen schemas parameters arguments) (seen_at schemas parameters arguments 2)
+
+-- the type of what a function answers, by its kind: over atomic values, over items, or with an answer of one type
+abbrev pub answer_ruling : SchemaSet → Option ValueFunction → Option ItemFunction → Function → List SequenceType → Ruling
+answer_ruling schemas (Some over_values) of_items function arguments =
     has_type (value_answer_type schemas over_values (first_seen schemas (parameters_of function) arguments))
+answer_ruling schemas None (Some of_items) function arguments = has_type (item_call_type schemas of_items (parameters_of function) arguments)
+answer_ruling schemas None None function arguments = answer_rule (called_type function)
+
+abbrev pub call_answer_ruling : SchemaSet → Function → List SequenceType → Ruling
+call_answer_ruling schemas function arguments =
+    answer_ruling schemas (value_function_of function) (item_function_of function) function arguments
 
 unfoldable pub call_rule : SchemaSet → Function → List SequenceType → Ruling
 call_rule schemas function arguments =
-    arguments_rule schemas (parameters_of function) arguments 0 (answer_ruling schemas (value_function_of function) function arguments)
+    arguments_rule schemas (parameters_of function) arguments 0 (call_answer_ruling schemas function arguments)
 
 -- ---- blocks
 

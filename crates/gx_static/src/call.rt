@@ -1,11 +1,11 @@
 // The static rule of calls of built-in functions.
 
 ghost use Rattle.std.specs.Prelude.{◌≡◌, ◌++◌, [], ◌∷◌, true, IfOk, IfErr, IsTrue, OnOk, Some};
-ghost use Rattle.gx_funcs.specs.Function.{parameters_of, value_function_of};
+ghost use Rattle.gx_funcs.specs.Function.{parameters_of};
 ghost use Rattle.gx_types.specs.SequenceType.{both, star as any_number};
 ghost use Rattle.gx_include.specs.Decision.{is_included};
 ghost use Rattle.gx_steptype.specs.StepType.{node_type as type_of_node, any_item};
-ghost use Rattle.gx_static.specs.Rule.{has_type, atomic, has_effective_boolean, boolean_types, takes_argument, seen_argument, argument_ruling, answer_ruling, called_type, type_ruled, first_seen, call_rule, Ruling, has_none};
+ghost use Rattle.gx_static.specs.Rule.{has_type, atomic, has_effective_boolean, boolean_types, takes_argument, seen_argument, argument_ruling, call_answer_ruling, called_type, type_ruled, seen_at, item_call_type, call_rule, Ruling, has_none};
 ghost use Rattle.gx_static.specs.Refusal.{RefusesType};
 
 use crate::comparison::{Family, is_all_of_family, is_of_family};
@@ -14,11 +14,14 @@ use crate::error::RuleError;
 use crate::item_tests::{
     atomic, is_all_atomic, is_all_in, is_at_least_one, is_at_most_one, is_optional_in, no_type,
 };
+use crate::item_types::item_answer_type;
+use crate::nodes::is_optional_node;
 use crate::rules::data_type;
 use crate::value_types::value_answer_type;
 use gx_base::code::Code;
 use gx_base::type_name::{Builtin, TypeName};
 use gx_funcs::function::{Conversion, Function, Parameter, ParameterType};
+use gx_funcs::item_function::ItemFunction;
 use gx_include::decision::is_included;
 use gx_steptype::axis_type::{item_type, node_type};
 use gx_types::item_type::ItemType;
@@ -61,6 +64,12 @@ fn takes_argument(
         ParameterType::Values => Ok(is_all_atomic(argument)),
         ParameterType::OneValue => Ok(
             is_at_least_one(argument) && is_at_most_one(argument) && is_all_atomic(argument),
+        ),
+        ParameterType::OptionalNode => is_optional_node(alloc, schemas, argument),
+        ParameterType::OneInteger => Ok(
+            is_at_least_one(argument)
+                && is_at_most_one(argument)
+                && is_all_in(schemas, Builtin::Integer, argument),
         ),
     }
 }
@@ -157,14 +166,17 @@ fn answer_type(
     function: Function,
     arguments: &[Ty],
 ) -> Result<Ty, RuleError>
-    ensures typed { IfOk result (λ t. answer_ruling schemas.now (value_function_of function) function arguments.now ≡ has_type t) }
-    ensures refused { IfErr result (λ e. RefusesType e (answer_ruling schemas.now (value_function_of function) function arguments.now)) }
+    ensures typed { IfOk result (λ t. call_answer_ruling schemas.now function arguments.now ≡ has_type t) }
+    ensures refused { IfErr result (λ e. RefusesType e (call_answer_ruling schemas.now function arguments.now)) }
 {
     if let Some(over_values) = function.value_function() {
-        let first = first_seen(alloc, schemas, function, arguments)?;
+        let first = seen_at(alloc, schemas, function, arguments, 0)?;
         let answer = value_answer_type(alloc, schemas, over_values, &first);
         drop(first);
         return Ok(answer?);
+    }
+    if let Some(over_items) = function.item_function() {
+        return Ok(item_call_type(alloc, schemas, over_items, function, arguments)?);
     }
     match called_type(function) {
         Some(builtin) => Ok(atomic(alloc, builtin)?),
@@ -172,16 +184,38 @@ fn answer_type(
     }
 }
 
-// The type of the first argument as its parameter asks for it, if it has one.
-fn first_seen(
+// The type of what a function over items answers.
+fn item_call_type(
+    alloc: Global,
+    schemas: &Schemas,
+    over_items: ItemFunction,
+    function: Function,
+    arguments: &[Ty],
+) -> Result<Ty, AllocError>
+    ensures { IfOk result (λ t. t ≡ item_call_type schemas.now over_items (parameters_of function) arguments.now) }
+{
+    let first = seen_at(alloc, schemas, function, arguments, 0)?;
+    let Ok(third) = seen_at(alloc, schemas, function, arguments, 2) else {
+        drop(first);
+        return Err(AllocError);
+    };
+    let answer = item_answer_type(alloc, over_items, &first, &third);
+    drop(third);
+    drop(first);
+    answer
+}
+
+// The type of the argument with a number, counted from 0, as its parameter asks for it, if it has one.
+fn seen_at(
     alloc: Global,
     schemas: &Schemas,
     function: Function,
     arguments: &[Ty],
+    number: usize,
 ) -> Result<Ty, AllocError>
-    ensures { IfOk result (λ t. t ≡ first_seen schemas.now (parameters_of function) arguments.now) }
+    ensures { IfOk result (λ t. t ≡ seen_at schemas.now (parameters_of function) arguments.now number) }
 {
-    match (function.parameter(0), arguments.first()) {
+    match (function.parameter(number), arguments.get(number)) {
         (Some(parameter), Some(argument)) => type_seen(alloc, schemas, parameter.takes, argument),
         _ => Ok(Ty::none()),
     }

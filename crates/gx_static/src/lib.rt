@@ -15,6 +15,7 @@ mod functions;
 mod globals;
 pub mod infer;
 mod item_tests;
+mod item_types;
 pub mod laws;
 mod nodes;
 mod numeric;

@@ -42,7 +42,7 @@ pub(crate) fn node_comparison_type(
 
 // Whether a type is of at most one node. A type of at most one item whose item types are of nodes is known to be, without a test of
 // inclusion.
-fn is_optional_node(alloc: Global, schemas: &Schemas, t: &Ty) -> Result<bool, AllocError>
+pub(crate) fn is_optional_node(alloc: Global, schemas: &Schemas, t: &Ty) -> Result<bool, AllocError>
     ensures { IfOk result (λ answer. answer ≡ is_included schemas.now t.now optional_node) }
 {
     if is_one_node_or_none(schemas, t) {
@@ -105,7 +105,7 @@ fn set_type(
 }
 
 // Some of the items of a value, or none.
-fn some_of_type(alloc: Global, t: &Ty) -> Result<Ty, AllocError>
+pub(crate) fn some_of_type(alloc: Global, t: &Ty) -> Result<Ty, AllocError>
     ensures { IfOk result (λ u. u ≡ times_of (prime_of t.now) (occurs 0 (occurrence_of t.now).greatest)) }
 {
     let items = prime(alloc, t)?;

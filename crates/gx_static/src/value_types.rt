@@ -2,11 +2,8 @@
 
 ghost use Rattle.std.specs.Prelude.{◌≡◌, IfOk};
 ghost use Rattle.gx_types.specs.SequenceType.{optional as at_most_one, star as any_number};
-ghost use Rattle.gx_types.specs.Occurrence.{occurrence_of};
-ghost use Rattle.gx_types.specs.Prime.{prime_of};
-ghost use Rattle.gx_types.specs.TypeRules.{times_of};
-ghost use Rattle.gx_base.specs.declared.type_name.Builtin.TheVariants.{Integer};
-ghost use Rattle.gx_static.specs.Rule.{atomic, integer_if, is_all_in, as_optional, rounded_type, value_answer_type};
+ghost use Rattle.gx_base.specs.declared.type_name.Builtin.TheVariants.{Integer, Decimal};
+ghost use Rattle.gx_static.specs.Rule.{atomic, integer_if, is_all_in, as_optional, rounded_type, as_often, value_answer_type};
 
 use crate::filtering::one_of_type;
 use crate::item_tests::{atomic, is_all_in};
@@ -30,7 +27,7 @@ pub(crate) fn value_answer_type(
 {
     match function {
         ValueFunction::Sum => whole_type(alloc, schemas, first),
-        ValueFunction::Average => as_optional(alloc, first, Builtin::Decimal),
+        ValueFunction::Average => average_type(alloc, first),
         ValueFunction::Min | ValueFunction::Max => one_of_type(alloc, true, first),
         ValueFunction::Abs | ValueFunction::Floor | ValueFunction::Ceiling | ValueFunction::Round =>
             rounded_type(alloc, schemas, first),
@@ -52,23 +49,29 @@ fn whole_type(alloc: Global, schemas: &Schemas, t: &Ty) -> Result<Ty, AllocError
     atomic(alloc, integer_if(is_all_in(schemas, Builtin::Integer, t)))
 }
 
-// One value of a built-in type, or none where an argument may have none.
-fn as_optional(alloc: Global, argument: &Ty, builtin: Builtin) -> Result<Ty, AllocError>
-    ensures { IfOk result (λ t. t ≡ as_optional argument.now (atomic builtin)) }
+// One value, or none where an argument may have none.
+pub(crate) fn as_optional(alloc: Global, argument: &Ty, t: Ty) -> Result<Ty, AllocError>
+    ensures { IfOk result (λ r. r ≡ as_optional argument.now t) }
 {
-    let value = atomic(alloc, builtin)?;
     let occurs = Occurrence {
         least: occurrence(argument).least,
         greatest: 1,
     };
-    times(alloc, value, occurs)
+    times(alloc, t, occurs)
+}
+
+fn average_type(alloc: Global, argument: &Ty) -> Result<Ty, AllocError>
+    ensures { IfOk result (λ t. t ≡ as_optional argument.now (atomic Decimal)) }
+{
+    let decimal = atomic(alloc, Builtin::Decimal)?;
+    as_optional(alloc, argument, decimal)
 }
 
 fn rounded_type(alloc: Global, schemas: &Schemas, argument: &Ty) -> Result<Ty, AllocError>
     ensures { IfOk result (λ t. t ≡ rounded_type schemas.now argument.now) }
 {
-    let builtin = integer_if(is_all_in(schemas, Builtin::Integer, argument));
-    as_optional(alloc, argument, builtin)
+    let number = whole_type(alloc, schemas, argument)?;
+    as_optional(alloc, argument, number)
 }
 
 fn optional_integer(alloc: Global) -> Result<Ty, AllocError>
@@ -85,9 +88,9 @@ fn integers(alloc: Global) -> Result<Ty, AllocError>
     star(alloc, &integer)
 }
 
-// Items of a type, as often as there are any.
-fn as_often(alloc: Global, t: &Ty) -> Result<Ty, AllocError>
-    ensures { IfOk result (λ r. r ≡ times_of (prime_of t.now) (occurrence_of t.now)) }
+// Items of a type, as often as it occurs.
+pub(crate) fn as_often(alloc: Global, t: &Ty) -> Result<Ty, AllocError>
+    ensures { IfOk result (λ r. r ≡ as_often t.now) }
 {
     let items = prime(alloc, t)?;
     times(alloc, items, occurrence(t))

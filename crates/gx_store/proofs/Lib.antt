@@ -9,3 +9,5 @@ pub mod CombinedLemmas
 pub mod ValueLemmas
 pub mod StepLemmas
 pub mod CopyLemmas
+pub mod RootLemmas
+pub mod AgreeingLemmas

@@ -10,3 +10,4 @@ pub mod NumberOrder
 pub mod Combined
 pub mod Shaped
 pub mod Copied
+pub mod Agreeing

@@ -4,12 +4,14 @@
 mod axis;
 pub mod children;
 mod combine;
+mod deep_equal;
 pub mod item;
 mod labels;
 mod load;
 mod meets;
 pub mod number;
 mod order;
+mod root;
 mod row;
 pub mod store;
 mod string_value;

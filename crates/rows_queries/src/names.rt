@@ -9,7 +9,7 @@ use gx_types::schemas::Schemas;
 use std::alloc::{AllocError, Global};
 
 /// Shows the code and the place of the first refusal of a query where no schema is loaded, or that there is none and then the elements,
-/// attributes and texts of its body in their order.
+/// attributes, texts, calls, casts and context items of its body in their order.
 pub fn show_resolution(alloc: Global, out: &mut String, query: &Query) -> Result<(), AllocError> {
     let schemas = Schemas::empty(alloc)?;
     match resolve(alloc, query, &schemas) {
@@ -31,14 +31,10 @@ fn show_unresolved(out: &mut String, refusal: NameRefusal) -> Result<(), AllocEr
 
 fn show_body(alloc: Global, out: &mut String, body: &ResolvedExpr) -> Result<(), AllocError> {
     out.push_str("resolved")?;
-    show_constructors(alloc, out, body)
+    show_constructs(alloc, out, body)
 }
 
-fn show_constructors(
-    alloc: Global,
-    out: &mut String,
-    tree: &ResolvedExpr,
-) -> Result<(), AllocError> {
+fn show_constructs(alloc: Global, out: &mut String, tree: &ResolvedExpr) -> Result<(), AllocError> {
     let mut left = Vec::new(alloc);
     left.push(tree)?;
     for _ in 0..u64::MAX {
@@ -61,6 +57,16 @@ fn show_construct(out: &mut String, construct: &Construct) -> Result<(), AllocEr
         Construct::DirectAttribute(name) => show_name(out, "direct attribute", name.name()),
         Construct::Blank(text) => write!(out, ", blank {text:?}"),
         Construct::String(text) => write!(out, ", text {text:?}"),
+        Construct::Call(function) => {
+            let name = function.name();
+            write!(out, ", call {name}")
+        }
+        Construct::CallDeclared(name) => show_name(out, "call", name.name()),
+        Construct::CastAs(kind, optional) => {
+            let mark = if *optional { "?" } else { "" };
+            write!(out, ", cast {kind:?}{mark}")
+        }
+        Construct::Context => out.push_str(", context item"),
         _ => Ok(()),
     }
 }

@@ -65,7 +65,8 @@ impl Made {
         true
     }
 
-    fn stands_for(&self, id: NodeId, node: &Node) -> bool {
+    /// Whether a number stands for this node.
+    pub fn stands_for(&self, id: NodeId, node: &Node) -> bool {
         match self.places.get(id.number) {
             Some(place) => place == node,
             None => false,

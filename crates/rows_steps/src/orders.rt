@@ -1,4 +1,4 @@
-// Rows of document order and of combinations.
+// Rows of two nodes and of sequences of nodes.
 
 use crate::made::Made;
 use crate::shown::{node_of, nodes_of, shown_numbers};
@@ -9,6 +9,16 @@ use std::alloc::{AllocError, Global};
 pub fn before_row(alloc: Global, a: &str, b: &str, made: &Made) -> Result<String, AllocError> {
     let (a, b) = (node_of(a), node_of(b));
     format!(in alloc; "{} {}", made.store.before(a, b), made.store.before(b, a))
+}
+
+/// Whether two nodes are deep-equal, one with the other and the other way round.
+pub fn equal_row(alloc: Global, a: &str, b: &str, made: &Made) -> Result<String, AllocError> {
+    let (a, b) = (node_of(a), node_of(b));
+    let (equal, turned) = (
+        made.store.are_deep_equal(a, b),
+        made.store.are_deep_equal(b, a),
+    );
+    format!(in alloc; "{equal} {turned}")
 }
 
 /// Nodes in document order.

@@ -3,8 +3,9 @@
 use crate::arguments::{axis_of, shown_nodes, test_of};
 use crate::made::Made;
 use crate::nodes::{near_row, string_row, tree_row, typed_row};
-use crate::orders::{before_row, combined_row, order_row};
-use crate::shown::push_numbers;
+use crate::orders::{before_row, combined_row, equal_row, order_row};
+use crate::shown::{node_of, push_numbers};
+use gx_model::node::Node;
 use gx_store::number::NodeId;
 use gx_types::step::{Axis, Test};
 use rows_words::not_a_row;
@@ -25,7 +26,7 @@ pub fn store_row(alloc: Global, words: &[&str]) -> Result<String, AllocError> {
 fn argument_count(call: &str) -> usize {
     match call {
         "places" => 0,
-        "near" | "string" | "typed" | "tree" | "order" => 1,
+        "near" | "string" | "typed" | "tree" | "order" | "root" => 1,
         _ => 2,
     }
 }
@@ -56,6 +57,8 @@ fn answer_in(
         ("typed", [node]) => typed_row(alloc, node, made),
         ("tree", [node]) => tree_row(alloc, node, made),
         ("before", [a, b]) => before_row(alloc, a, b, made),
+        ("root", [node]) => root_row(alloc, node, made),
+        ("equal", [a, b]) => equal_row(alloc, a, b, made),
         ("order", [nodes]) => order_row(alloc, nodes, made),
         (operator, [first, second]) => combined_row(alloc, operator, first, second, made),
         _ => not_a_row(alloc),
@@ -66,6 +69,20 @@ fn answer_in(
 fn places_row(alloc: Global, made: &Made) -> Result<String, AllocError> {
     let shown = shown_nodes(alloc, made.places.as_slice())?;
     format!(in alloc; "{}: {shown}", made.store.count())
+}
+
+// The root of the tree that a node is in, beside that of its place in the forest.
+fn root_row(alloc: Global, node: &str, made: &Made) -> Result<String, AllocError> {
+    let node = node_of(node);
+    match (made.store.root(node), made.places.get(node.number)) {
+        (Some(root), Some(place)) => {
+            let own = Node::root(alloc, place.tree)?;
+            let agree = made.stands_for(root, &own);
+            format!(in alloc; "{} {}", root.number, agreement(agree))
+        }
+        (None, None) => String::from_str(alloc, "nothing"),
+        _ => String::from_str(alloc, agreement(false)),
+    }
 }
 
 // What a step finds from each node, and from a number past them, as the numbers of nodes.

@@ -152,7 +152,7 @@ fn binary_row(alloc: Global, word: &str, parts: &[Ty]) -> Result<String, AllocEr
 {
     match binary_operator(word) {
         Some(operator) => ruled(alloc, &Operator::Binary(operator), parts),
-        None => not_a_row(alloc),
+        None => call_row(alloc, word, parts),
     }
 }
 

@@ -30,3 +30,6 @@ pub returns-in-Values : goal.returns-in-Values
 returns-in-Values c = λ later.
     rw c.in-Values.is
     (subst (λ (added : List Atomic). OnOk c.put_atoms.result (items_in later c.put_atoms.new.values.items ≡ items_in later c.args.values.now.items ++ atoms added)) c.as_slice-in-Values.ensures.value (c.put_atoms.ensures later))
+
+pub returns-in-Items : goal.returns-in-Items
+returns-in-Items c = λ later. rw c.in-Items.is (c.move_behind.ensures later)

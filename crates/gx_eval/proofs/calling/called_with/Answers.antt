@@ -36,3 +36,10 @@ returns-in-len1-clause-failed c = λ later x.
     subst (λ (operands : List (Vec Item Global)). IfErr c.called_with_one.result (λ e. FailsSo e (called s c.args.function (parts_in later operands) forest)))
     (sym (the_single c.args.operands.now c.argument-item.result l c.argument-item.is))
     (subst (λ (items : List Item). IfErr c.called_with_one.result (λ e. FailsSo e (called s c.args.function (items_in later items ∷ []) forest))) c.as_slice.ensures.value (c.called_with_one.ensures.failed later x))
+
+pub returns-in-empty-clause-failed : goal.returns-in-empty-clause-failed
+returns-in-empty-clause-failed c = λ later x.
+    let s = c.args.schemas.now in
+    let forest = c.args.store.now in
+    let none : c.args.operands.now ≡ [] = nil_from_length c.args.operands.now (omega arith) in
+    subst (λ (operands : List (Vec Item Global)). IfErr c.called_with_none.result (λ e. FailsSo e (called s c.args.function (parts_in later operands) forest))) (sym none) (c.called_with_none.ensures.failed s forest)

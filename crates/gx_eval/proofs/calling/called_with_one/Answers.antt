@@ -40,3 +40,9 @@ returns-in-OfValues-clause-value c = λ later x. rw c.in-OfValues.is (c.called_w
 
 pub returns-in-OfValues-clause-failed : goal.returns-in-OfValues-clause-failed
 returns-in-OfValues-clause-failed c = λ later x. rw c.in-OfValues.is (c.called_with_value.ensures.failed later x)
+
+pub returns-in-OfItems-clause-value : goal.returns-in-OfItems-clause-value
+returns-in-OfItems-clause-value c = λ later x. rw c.in-OfItems.is (c.called_with_item.ensures.value c.args.schemas.now later x)
+
+pub returns-in-OfItems-clause-failed : goal.returns-in-OfItems-clause-failed
+returns-in-OfItems-clause-failed c = λ later x. rw c.in-OfItems.is (c.called_with_item.ensures.failed c.args.schemas.now later x)

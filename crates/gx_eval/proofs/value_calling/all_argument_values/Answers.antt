@@ -9,7 +9,7 @@ use Rattle.gx_funcs.specs.declared.function.Parameter.{Parameter}
 use Rattle.gx_funcs.specs.Function.{conversion_of, value_parameters_of}
 use Rattle.gx_funcs.specs.Values.{lists_of}
 use Rattle.gx_model.specs.Item.{Items}
-use Rattle.gx_core.specs.Calling.{argument_values, all_argument_values}
+use Rattle.gx_core.specs.Arguments.{argument_values, all_argument_values}
 use Rattle.gx_core.specs.Outcome.{gives, after}
 use Rattle.gx_build.specs.Parts.{parts_in}
 use Rattle.gx_store.specs.declared.item.Item.{Item}

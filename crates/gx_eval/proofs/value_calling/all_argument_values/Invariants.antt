@@ -4,7 +4,7 @@ use Rattle.gx_funcs.specs.Values.{lists_of}
 use Rattle.gx_model.specs.Forest.{Forest}
 use Rattle.gx_model.specs.Growth.{Extends}
 use Rattle.gx_build.specs.Parts.{parts_in}
-use Rattle.gx_core.specs.Calling.{all_argument_values}
+use Rattle.gx_core.specs.Arguments.{all_argument_values}
 use Rattle.gx_core.specs.Outcome.{gives, after}
 use Rattle.gx_eval.proofs.value_calling.all_argument_values.Given as goal
 

@@ -8,7 +8,8 @@ use Rattle.gx_funcs.specs.declared.function.Parameter.{Parameter}
 use Rattle.gx_funcs.specs.Function.{conversion_of, value_parameters_of}
 use Rattle.gx_funcs.specs.Values.{lists_of, value_answer}
 use Rattle.gx_model.specs.Item.{Items}
-use Rattle.gx_core.specs.Calling.{argument_values, value_called}
+use Rattle.gx_core.specs.Arguments.{argument_values}
+use Rattle.gx_core.specs.Calling.{value_called}
 use Rattle.gx_core.specs.Outcome.{Outcome, gives, after}
 use Rattle.gx_store.specs.Items.{items_in}
 use Rattle.gx_eval.specs.Answering.{answer_items, values_found}

@@ -1,8 +1,8 @@
 use Rattle.std.proofs.Common.{map, string_bytes, refl, sym}
 use Rattle.gx_io.specs.LibraryUse.{library_use}
 use Rattle.gx_processor.specs.Command.{command_of}
-use Rattle.gx_processor.proofs.StepLoads.{comparison_loads}
-use Rattle.gx_processor.proofs.Replying.{no_command, texts_misused}
+use Rattle.gx_processor.proofs.StepLoads.{comparison_loads, workload_loads}
+use Rattle.gx_processor.proofs.Replying.{no_command, texts_misused, workload_names_no_query, workload_misused}
 use Rattle.gx_processor.proofs.processor.reply_to.Goals as goal
 
 pub returns-in-Some-clause-usage : goal.returns-in-Some-clause-usage

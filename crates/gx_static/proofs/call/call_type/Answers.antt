@@ -3,8 +3,8 @@ use Rattle.std.specs.Prelude.{slice_get}
 use Rattle.std.proofs.lemmas.Result.{err_from_is_err_and}
 use Rattle.gx_types.specs.SequenceType.{SequenceType}
 use Rattle.gx_funcs.specs.declared.function.Parameter.{Parameter}
-use Rattle.gx_funcs.specs.Function.{parameters_of, value_function_of}
-use Rattle.gx_static.specs.Rule.{Ruling, arguments_rule, answer_ruling}
+use Rattle.gx_funcs.specs.Function.{parameters_of}
+use Rattle.gx_static.specs.Rule.{Ruling, arguments_rule, call_answer_ruling}
 use Rattle.gx_static.proofs.CallLemmas.{parameter_is_within, next_argument, too_many_arguments, too_few_arguments}
 use Rattle.gx_static.proofs.call.call_type.Goals as goal
 
@@ -13,7 +13,7 @@ returns-in_default-parameter-clause-refused c =
     let s = c.args.schemas.now in
     let parameters : List Parameter = parameters_of c.args.function in
     let number = c.loop-argument.number in
-    let answer : Ruling = answer_ruling s (value_function_of c.args.function) c.args.function c.args.arguments.now in
+    let answer : Ruling = call_answer_ruling s c.args.function c.args.arguments.now in
     let left : c.loop-argument.left.now ≡ c.in-Some.argument.now ∷ c.in-Some.behind.now = search rules in
     let none : slice_get parameters number ≡ None = sym c.parameter.ensures ∙ c.in_default-parameter.is in
     rw c.no_type.ensures (sym c.loop-argument.invariant.ruled ∙ ap (λ (l : List SequenceType). arguments_rule s (drop number parameters) l number answer) left ∙ too_many_arguments s parameters number c.in-Some.argument.now c.in-Some.behind.now answer none)
@@ -23,7 +23,7 @@ returns-in_err-check_argument-clause-refused c =
     let s = c.args.schemas.now in
     let parameters : List Parameter = parameters_of c.args.function in
     let number = c.loop-argument.number in
-    let answer : Ruling = answer_ruling s (value_function_of c.args.function) c.args.function c.args.arguments.now in
+    let answer : Ruling = call_answer_ruling s c.args.function c.args.arguments.now in
     let argument = c.in-Some.argument.now in
     let behind = c.in-Some.behind.now in
     let parameter = c.in-Some-parameter.parameter in
@@ -38,7 +38,7 @@ loop-argument-preserved c =
     let s = c.args.schemas.now in
     let parameters : List Parameter = parameters_of c.args.function in
     let number = c.loop-argument.number in
-    let answer : Ruling = answer_ruling s (value_function_of c.args.function) c.args.function c.args.arguments.now in
+    let answer : Ruling = call_answer_ruling s c.args.function c.args.arguments.now in
     let argument = c.in-Some.argument.now in
     let behind = c.in-Some.behind.now in
     let parameter = c.in-Some-parameter.parameter in
@@ -62,7 +62,7 @@ returns-else-number-arity-clause-refused c =
     let s = c.args.schemas.now in
     let parameters : List Parameter = parameters_of c.args.function in
     let number = c.loop-argument.number in
-    let answer : Ruling = answer_ruling s (value_function_of c.args.function) c.args.function c.args.arguments.now in
+    let answer : Ruling = call_answer_ruling s c.args.function c.args.arguments.now in
     let left : c.loop-argument.left.now ≡ [] = search rules in
     let within : number ≤ length parameters = c.loop-argument.invariant.within in
     let other : number ≡ length parameters → ⊥ = λ same. c.if-number-arity.false (same ∙ sym c.arity.ensures) in
