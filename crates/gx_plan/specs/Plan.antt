@@ -1,0 +1,49 @@
+-- Plans: typed Core in which some loops are marked as joins. A mark changes no meaning: a join means its two loops and their test.
+use Rattle.std.specs.Prelude.{ℕ, List, [], ◌∷◌, ◌++◌, map, Option, Some, None, option_map, get_or}
+use Rattle.gx_types.specs.SequenceType.{SequenceType}
+use Rattle.gx_core.specs.declared.expression.Query.{Query}
+use Rattle.gx_core.specs.declared.expression.Declaration.{Declaration}
+use Rattle.gx_core.specs.declared.expression.Declaration.TheVariants.{Global, Function}
+use Rattle.gx_core.specs.declared.expression.DeclaredFunction.{DeclaredFunction}
+use Rattle.gx_core.specs.Expression.{Expression, At, Parts, no_parts, a_part, annotation_of}
+use Rattle.gx_core.specs.Queries.{TypedCore}
+use Rattle.gx_core.specs.Soundness.{TypedExpression}
+use Rattle.gx_plan.specs.declared.plan.Role.{Role}
+use Rattle.gx_plan.specs.declared.plan.Role.TheVariants.{Own, Join, InJoin}
+use Rattle.gx_plan.specs.declared.plan.Carried.{Carried}
+
+abbrev pub PlanExpression : Type 0
+PlanExpression = Expression Carried
+
+abbrev pub PlanQuery : Type 0
+PlanQuery = Query Carried
+
+-- what an operator of its own carries
+abbrev pub own : SequenceType → Carried
+own t = record { kind = t; role = Own }
+
+-- the type that an expression carries
+abbrev pub kind_of : PlanExpression → SequenceType
+kind_of e = (annotation_of e).kind
+
+abbrev pub kinds_of : Parts Carried → List SequenceType
+kinds_of no_parts = []
+kinds_of (a_part first others) = kind_of first ∷ kinds_of others
+
+-- ---- the typed Core that a plan means
+
+abbrev mutual
+  pub typed_expression : PlanExpression → TypedExpression
+  typed_expression (At place outer carried operator parts) = At place outer carried.kind operator (typed_parts parts)
+
+  pub typed_parts : Parts Carried → Parts SequenceType
+  typed_parts no_parts = no_parts
+  typed_parts (a_part first others) = a_part (typed_expression first) (typed_parts others)
+
+abbrev pub typed_declaration : Declaration Carried → Declaration SequenceType
+typed_declaration (Global name binder value) = Global name binder (option_map typed_expression value)
+typed_declaration (Function function) =
+    Function (record { place = function.place; name = function.name; parameters = function.parameters; result = function.result; body = typed_expression function.body })
+
+abbrev pub typed_query : PlanQuery → TypedCore
+typed_query query = record { declarations = map typed_declaration query.declarations; body = typed_expression query.body }
