@@ -1,2 +1,4 @@
 pub mod Plan
 pub mod Compiling
+pub mod Operands
+pub mod Remaking
