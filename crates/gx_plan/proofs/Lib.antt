@@ -1,1 +1,4 @@
 pub mod Remade
+pub mod Compiled
+pub mod WalkLemmas
+pub mod VariableLemmas

@@ -2,3 +2,5 @@ pub mod Plan
 pub mod Compiling
 pub mod Operands
 pub mod Remaking
+pub mod Variables
+pub mod Walk

@@ -1,5 +1,9 @@
 -- Trees that are remade from below, and how far a pass that does so is.
-use Rattle.std.specs.Prelude.{◌≡◌, ℕ, suc, ◌+◌, List, [], ◌∷◌, ◌++◌, map, length, reverse}
+use Rattle.std.specs.Prelude.{◌≡◌, ℕ, suc, ◌+◌, List, [], ◌∷◌, ◌++◌, map, length, reverse, option_map}
+use Rattle.gx_core.specs.declared.expression.Query.{Query}
+use Rattle.gx_core.specs.declared.expression.Declaration.{Declaration}
+use Rattle.gx_core.specs.declared.expression.Declaration.TheVariants.{Global, Function}
+use Rattle.gx_core.specs.declared.expression.DeclaredFunction.{DeclaredFunction}
 use Rattle.gx_base.specs.declared.place.Place.{Place}
 use Rattle.gx_core.specs.declared.operator.Operator.{Operator}
 use Rattle.gx_core.specs.Expression.{Expression, At, Parts, no_parts, a_part, all_parts}
@@ -17,6 +21,14 @@ abbrev mutual
   pub parts_remade : {A B : Type 0} → Remaker A B → Parts A → Parts B
   parts_remade make no_parts = no_parts
   parts_remade make (a_part first others) = a_part (remade make first) (parts_remade make others)
+
+abbrev pub declaration_remade : {A B : Type 0} → Remaker A B → Declaration A → Declaration B
+declaration_remade make (Global name binder value) = Global name binder (option_map (remade make) value)
+declaration_remade make (Function function) =
+    Function (record { place = function.place; name = function.name; parameters = function.parameters; result = function.result; body = remade make function.body })
+
+abbrev pub query_remade : {A B : Type 0} → Remaker A B → Query A → Query B
+query_remade make query = record { declarations = map (declaration_remade make) query.declarations; body = remade make query.body }
 
 -- ---- a pass
 

@@ -1,8 +1,8 @@
 // Plans: typed Core without operators that typing alone needs, in which some loops are marked as joins.
 
-use gx_core::expression::{Declaration, Expr, Part, Query};
+use gx_core::expression::{Clause, Declaration, Expr, Part, Query};
+use gx_core::scope::Scope;
 use gx_types::sequence_type::Ty;
-use std::marker::Model;
 
 /// How an operator stands in a plan.
 #[derive(Clone, Copy, PartialEq, Eq)]
@@ -38,18 +38,15 @@ pub type PlanExpr = Expr<Carried>;
 /// A part of an expression of a plan.
 pub type PlanPart = Part<Carried>;
 
+/// A clause of a block of a plan.
+pub type PlanClause = Clause<Carried>;
+
 /// A declaration of a plan.
 pub type PlanDeclaration = Declaration<Carried>;
-
-/// The types that variables carry, each at the number of its variable.
-#[derive(Drop)]
-pub struct VariableTypes {
-    types: Vec<Option<Ty>>,
-}
 
 /// A query as it is to be evaluated: its declarations and its body, and the types that its variables carry.
 #[derive(Drop)]
 pub struct Plan {
     pub query: Query<Carried>,
-    pub variables: VariableTypes,
+    pub variables: Scope<Ty>,
 }

@@ -1,16 +1,19 @@
 // Trees remade from below, by a loop over the operators that are open.
 
-ghost use Rattle.std.specs.Prelude.{◌≡◌, List, ◌∷◌, IfOk, IfSome, IsNone};
+ghost use Rattle.std.specs.Prelude.{◌≡◌, List, ◌∷◌, map, option_map, IfOk, IfSome, IsNone};
 ghost use Rattle.gx_base.specs.declared.place.Place.{Place as PlaceInText};
 ghost use Rattle.gx_core.specs.declared.operator.Operator.{Operator as CoreOperator};
+ghost use Rattle.gx_core.specs.declared.expression.Declaration.TheVariants as declarations;
 ghost use Rattle.gx_core.specs.Expression.{Expression, Parts};
-ghost use Rattle.gx_plan.specs.Remaking.{Remaker, remade, remade_inside, frame_made, frame_remade, all_remade, IsReady, IsUnderWay, AwaitsPart};
+ghost use Rattle.gx_plan.specs.Remaking.{Remaker, remade, declaration_remade, query_remade, remade_inside, frame_made, frame_remade, all_remade, IsReady, IsUnderWay, AwaitsPart};
 ghost use Rattle.gx_plan.specs.declared.remake.Frame.{Frame as OpenFrame};
 
 use crate::operands::operator_and_parts;
 use gx_base::place::Place;
 use gx_base::stack::Stack;
-use gx_core::expression::Expr;
+use gx_core::dismantle::{dismantle, dismantle_declarations};
+use gx_core::expression::{Declaration, DeclaredFunction, Expr, Query};
+use gx_core::listed::Listed;
 use gx_core::operator::Operator;
 use std::alloc::{AllocError, Global};
 
@@ -28,6 +31,7 @@ pub trait Remake<K, L, F> {
 }
 
 /// An operator that is open: its parts that are remade, a fact of each, and the parts that are left, the next one last.
+#[derive(Drop)]
 pub struct Frame<K, L, F> {
     pub place: Place,
     pub outer: Place,
@@ -36,20 +40,6 @@ pub struct Frame<K, L, F> {
     pub parts: Vec<Expr<L>>,
     pub facts: Vec<F>,
     pub left: Vec<Expr<K>>,
-}
-
-impl<K: Drop, L: Drop, F: Drop> Drop for Frame<K, L, F> {
-    fn drop(self) {
-        let Frame {
-            place: _place,
-            outer: _outer,
-            carried: _carried,
-            operator: _operator,
-            parts: _parts,
-            facts: _facts,
-            left: _left,
-        } = self;
-    }
 }
 
 /// The tree that an expression becomes, and its fact. The work ends long before the loop does.
@@ -131,4 +121,122 @@ fn taken_in<K: Drop, L: Drop, F: Drop>(
     frame.parts.push(part)?;
     frame.facts.push(fact)?;
     Ok(frame)
+}
+
+/// The query that a query becomes, each value, each body of a function and its own body remade.
+pub fn remake_query<K: Drop, L: Drop, F: Drop, R: Remake<K, L, F>>(
+    alloc: Global,
+    remaker: &R,
+    query: Query<K>,
+) -> Result<Query<L>, AllocError>
+    ensures { IfOk result (λ r. r ≡ query_remade (R.make remaker.now) query) }
+{
+    let Query { declarations, body } = query;
+    let Ok(declarations) = remake_declarations(alloc, remaker, declarations.into_vec()) else {
+        dismantle(alloc, body);
+        return Err(AllocError);
+    };
+    match remake_all(alloc, remaker, body) {
+        Ok((body, _fact)) => Ok(Query {
+            declarations: Listed::from_vec(declarations),
+            body,
+        }),
+        Err(error) => {
+            dismantle_declarations(alloc, declarations);
+            Err(error)
+        }
+    }
+}
+
+fn remake_declarations<K: Drop, L: Drop, F: Drop, R: Remake<K, L, F>>(
+    alloc: Global,
+    remaker: &R,
+    declarations: Vec<Declaration<K>>,
+) -> Result<Vec<Declaration<L>>, AllocError>
+    ensures { IfOk result (λ made. made.items ≡ map (declaration_remade (R.make remaker.now)) declarations.items) }
+{
+    let mut left = declarations;
+    left.reverse();
+    let mut made = Vec::new(alloc);
+    while let Some(declaration) = left.pop() {
+        made.push(remake_declaration(alloc, remaker, declaration)?)?;
+    }
+    Ok(made)
+}
+
+fn remake_declaration<K: Drop, L: Drop, F: Drop, R: Remake<K, L, F>>(
+    alloc: Global,
+    remaker: &R,
+    declaration: Declaration<K>,
+) -> Result<Declaration<L>, AllocError>
+    ensures { IfOk result (λ made. made ≡ declaration_remade (R.make remaker.now) declaration) }
+{
+    match declaration {
+        Declaration::Global {
+            name,
+            binder,
+            value,
+        } => match remake_value(alloc, remaker, value) {
+            Ok(value) => Ok(Declaration::Global {
+                name,
+                binder,
+                value,
+            }),
+            Err(error) => {
+                drop(name);
+                drop(binder);
+                Err(error)
+            }
+        },
+        Declaration::Function(function) => remake_function(alloc, remaker, function),
+    }
+}
+
+fn remake_value<K: Drop, L: Drop, F: Drop, R: Remake<K, L, F>>(
+    alloc: Global,
+    remaker: &R,
+    value: Option<Expr<K>>,
+) -> Result<Option<Expr<L>>, AllocError>
+    ensures { IfOk result (λ made. made ≡ option_map (remade (R.make remaker.now)) value) }
+{
+    match value {
+        Some(value) => {
+            let (made, _fact) = remake_all(alloc, remaker, value)?;
+            Ok(Some(made))
+        }
+        None => Ok(None),
+    }
+}
+
+fn remake_function<K: Drop, L: Drop, F: Drop, R: Remake<K, L, F>>(
+    alloc: Global,
+    remaker: &R,
+    function: DeclaredFunction<K>,
+) -> Result<Declaration<L>, AllocError>
+    ensures { IfOk result (λ made. made ≡ declaration_remade (R.make remaker.now) (declarations.Function function)) }
+{
+    let DeclaredFunction {
+        place,
+        name,
+        parameters,
+        result,
+        body,
+    } = function;
+    match remake_all(alloc, remaker, body) {
+        Ok((body, _fact)) => Ok(
+            Declaration::Function(DeclaredFunction {
+                place,
+                name,
+                parameters,
+                result,
+                body,
+            }),
+        ),
+        Err(error) => {
+            drop(name);
+            drop(parameters);
+            drop(result);
+            Err(error)
+        }
+    }
 }
