@@ -1,0 +1,5 @@
+pub mod OperatorNames
+pub mod LiteralText
+pub mod NodeTestText
+pub mod PlanText
+pub mod Printing
