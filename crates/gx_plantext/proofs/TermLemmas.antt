@@ -6,7 +6,7 @@ use Rattle.gx_typetext.specs.NameText.{word}
 use Rattle.gx_plantext.specs.declared.terms.Terms.{Terms}
 use Rattle.gx_plantext.specs.declared.pending.Pending.{Pending}
 use Rattle.gx_plantext.specs.declared.pending.Pending.TheVariants.{Close}
-use Rattle.gx_plantext.specs.PlanText.{Fields, comma_before, fields_text, term_text}
+use Rattle.gx_plantext.specs.TermText.{Fields, comma_before, fields_text, term_text}
 use Rattle.gx_plantext.specs.Printing.{AddsFields, OpensTerm, ClosesTerm, PutsFields, is_first_behind, fields_here, text_behind, printed_terms, printed_with}
 
 -- one field

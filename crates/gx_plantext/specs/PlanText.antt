@@ -1,18 +1,13 @@
--- How plans are written: an operator as a term, which is its name with its fields in parentheses.
-use Rattle.std.specs.Prelude.{ℕ, Bool, true, false, List, [], ◌∷◌, ◌++◌, map, codes, decimal, Some, None}
-use Rattle.std.specs.Fmt.{signed_decimal}
+-- How plans are written: each operator as a term.
+use Rattle.std.specs.Prelude.{ℕ, true, List, [], ◌∷◌, ◌++◌, map, codes, Some, None}
 use Rattle.std.specs.List.{flat_map}
 use Rattle.gx_sorting.specs.declared.keys.KeyOrder.{KeyOrder}
 use Rattle.gx_core.specs.declared.cases.TypeCase.{TypeCase}
-use Rattle.gx_base.specs.declared.type_name.TypeName.{TypeName}
-use Rattle.gx_core.specs.declared.constructor.Constructor.{Constructor}
-use Rattle.gx_core.specs.declared.constructor.Constructor.TheVariants.{Element, Attribute}
 use Rattle.gx_core.specs.declared.expression.Binder.{Binder}
 use Rattle.gx_core.specs.declared.expression.DeclaredFunction.{DeclaredFunction}
 use Rattle.gx_core.specs.declared.expression.Declaration.{Declaration}
 use Rattle.gx_core.specs.declared.expression.Declaration.TheVariants.{Global, Function}
 use Rattle.gx_core.specs.declared.operator.ClauseKind.{ClauseKind}
-use Rattle.gx_core.specs.declared.operator.ClauseKind.TheVariants as clauses
 use Rattle.gx_core.specs.declared.operator.Operator.{Operator}
 use Rattle.gx_core.specs.declared.operator.Operator.TheVariants as operators
 use Rattle.gx_core.specs.Expression.{At, Parts, no_parts, a_part}
@@ -21,86 +16,16 @@ use Rattle.gx_plan.specs.declared.plan.Role.{Role}
 use Rattle.gx_plan.specs.declared.plan.Role.TheVariants.{Own, Join, InJoin}
 use Rattle.gx_plan.specs.declared.plan.Plan.{Plan}
 use Rattle.gx_plan.specs.Plan.{PlanExpression}
-use Rattle.gx_typetext.specs.NameText.{word, name_text, type_name_text}
+use Rattle.gx_typetext.specs.NameText.{word, name_text}
 use Rattle.gx_typetext.specs.TypeText.{type_text}
 use Rattle.gx_plantext.specs.OperatorNames.{operator_name, clause_name}
+use Rattle.gx_plantext.specs.OperatorFields.{fields_before, fields_behind, clause_fields, order_fields}
 use Rattle.gx_plantext.specs.LiteralText.{literal_text}
-use Rattle.gx_plantext.specs.NodeTestText.{axis_name, node_test_text}
-
--- the texts of the fields of a term
-abbrev pub Fields : Type 0
-Fields = List (List ℕ)
-
--- what stands before a field: nothing before the first one
-abbrev pub comma_before : (is_first : Bool) → List ℕ
-comma_before true = []
-comma_before false = word (codes ", ")
-
-abbrev pub fields_text : (is_first : Bool) → Fields → List ℕ
-fields_text is_first [] = []
-fields_text is_first (field ∷ fields) = comma_before is_first ++ (field ++ fields_text false fields)
-
-abbrev pub term_text : (name : List ℕ) → Fields → List ℕ
-term_text name fields = word name ++ (word (codes "(") ++ (fields_text true fields ++ word (codes ")")))
-
-abbrev pub number_text : ℕ → List ℕ
-number_text number = word (decimal number)
-
--- ---- fields that are no expressions
-
--- whether an empty operand may be cast
-abbrev pub one_or_opt : Bool → List ℕ
-one_or_opt true = word (codes "opt")
-one_or_opt false = word (codes "one")
-
--- the type of a cast
-abbrev pub target_fields : TypeName → (optional : Bool) → Fields
-target_fields kind optional = type_name_text kind ∷ one_or_opt optional ∷ []
-
--- the name of a constructor of elements or attributes
-abbrev pub constructed_fields : Constructor → Fields
-constructed_fields (Element name) = name_text name ∷ []
-constructed_fields (Attribute name) = name_text name ∷ []
-constructed_fields _ = []
-
--- what an operator has before its parts
-abbrev pub fields_before : Operator → Fields
-fields_before (operators.Var number) = number_text number ∷ []
-fields_before (operators.For binder position) = number_text binder.variable ∷ number_text position ∷ []
-fields_before (operators.Let binder) = number_text binder.variable ∷ []
-fields_before (operators.SomeIn binder) = number_text binder.variable ∷ []
-fields_before (operators.EveryIn binder) = number_text binder.variable ∷ []
-fields_before (operators.Step axis test number) = word (axis_name axis) ∷ node_test_text test ∷ number_text number ∷ []
-fields_before (operators.Construct constructor count) = constructed_fields constructor
-fields_before (operators.User signature count) = name_text signature.name ∷ []
-fields_before _ = []
-
--- what it has behind them
-abbrev pub fields_behind : Operator → Fields
-fields_behind (operators.Cast kind optional) = target_fields kind optional
-fields_behind (operators.Castable kind optional) = target_fields kind optional
-fields_behind (operators.Treat kind) = type_text kind ∷ []
-fields_behind (operators.Nth number reverse) = word (signed_decimal number) ∷ []
-fields_behind _ = []
-
-abbrev pub clause_fields : ClauseKind → Fields
-clause_fields (clauses.For binder position) = number_text binder.variable ∷ number_text position ∷ []
-clause_fields (clauses.Let binder) = number_text binder.variable ∷ []
-clause_fields clauses.Where = []
-
-abbrev pub direction_text : (descending : Bool) → List ℕ
-direction_text true = word (codes "descending")
-direction_text false = word (codes "ascending")
-
-abbrev pub emptiness_text : (greatest : Bool) → List ℕ
-emptiness_text true = word (codes "greatest")
-emptiness_text false = word (codes "least")
-
-abbrev pub order_fields : KeyOrder → Fields
-order_fields order = direction_text order.descending ∷ emptiness_text order.greatest ∷ []
+use Rattle.gx_plantext.specs.TermText.{Fields, fields_text, term_text, number_text}
 
 -- ---- terms inside a term, each of which holds the fields of a part
 
+-- a case of a switch, a clause of a block, and one of its keys
 abbrev pub case_text : TypeCase → Fields → List ℕ
 case_text case branch = term_text (codes "case") (type_text case.kind ∷ number_text case.variable ∷ branch)
 

@@ -11,8 +11,10 @@ use Rattle.gx_plantext.specs.declared.pending.Piece.{Piece}
 use Rattle.gx_plantext.specs.declared.pending.Piece.TheVariants.{One, All, Branches, Clauses, Keys, Behind, Order}
 use Rattle.gx_plantext.specs.declared.pending.Pending.{Pending}
 use Rattle.gx_plantext.specs.declared.pending.Pending.TheVariants.{Fields, Close}
-use Rattle.gx_plantext.specs.PlanText as texts
-use Rattle.gx_plantext.specs.PlanText.{comma_before, fields_text, number_text, fields_of, fields_behind, order_fields, branch_fields, clause_text, key_text}
+use Rattle.gx_plantext.specs.TermText as texts
+use Rattle.gx_plantext.specs.TermText.{comma_before, fields_text, number_text}
+use Rattle.gx_plantext.specs.OperatorFields.{fields_behind, order_fields}
+use Rattle.gx_plantext.specs.PlanText.{fields_of, branch_fields, clause_text, key_text}
 
 -- whether the next field is the first one of its term, behind some fields
 abbrev pub is_first_behind : Bool → texts.Fields → Bool

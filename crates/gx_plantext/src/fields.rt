@@ -4,7 +4,9 @@ ghost use Rattle.std.specs.Prelude.{◌≡◌, [], ◌∷◌, OnOk};
 ghost use Rattle.gx_core.specs.declared.operator.Operator.TheVariants as operators;
 ghost use Rattle.gx_core.specs.ExpressionView.{operator_of, parts_of, kind_of_clause};
 ghost use Rattle.gx_typetext.specs.TypeText.{type_text};
-ghost use Rattle.gx_plantext.specs.PlanText.{clause_fields, constructed_fields, fields_before, fields_behind, join_fields, loop_fields, number_text, order_fields, target_fields};
+ghost use Rattle.gx_plantext.specs.TermText.{number_text};
+ghost use Rattle.gx_plantext.specs.OperatorFields.{clause_fields, constructed_fields, fields_before, fields_behind, order_fields, target_fields};
+ghost use Rattle.gx_plantext.specs.PlanText.{join_fields, loop_fields};
 ghost use Rattle.gx_plantext.specs.Printing.{AddsFields};
 
 use crate::names::axis_name;

@@ -3,7 +3,8 @@
 ghost use Rattle.std.specs.Prelude.{◌≡◌, [], ◌∷◌, ◌++◌, map, OnOk};
 ghost use Rattle.std.specs.List.{flat_map};
 ghost use Rattle.gx_core.specs.ExpressionView.{operator_of, parts_of};
-ghost use Rattle.gx_plantext.specs.PlanText.{branch_fields, case_text, fields_of, fields_of_each, fields_text, join_term, number_text, operator_term, own_term, part_fields};
+ghost use Rattle.gx_plantext.specs.TermText.{fields_text, number_text};
+ghost use Rattle.gx_plantext.specs.PlanText.{branch_fields, case_text, fields_of, fields_of_each, join_term, operator_term, own_term, part_fields};
 ghost use Rattle.gx_plantext.specs.Printing.{clause_piece, fields_pending, key_piece, printed_terms, printed_with, PutsFields};
 
 use crate::fields::{add_before, add_behind, add_case, add_clause, add_join_variables, add_order};

@@ -5,7 +5,7 @@ ghost use Rattle.std.specs.Fmt.{signed_decimal};
 ghost use Rattle.std.specs.Str.{chars};
 ghost use Rattle.gx_typetext.specs.NameText.{word, name_text, type_name_text};
 ghost use Rattle.gx_typetext.specs.TypeText.{type_text};
-ghost use Rattle.gx_plantext.specs.PlanText.{comma_before, number_text};
+ghost use Rattle.gx_plantext.specs.TermText.{comma_before, number_text};
 ghost use Rattle.gx_plantext.specs.LiteralText.{literal_text};
 ghost use Rattle.gx_plantext.specs.NodeTestText.{node_test_text};
 ghost use Rattle.gx_plantext.specs.Printing.{AddsFields, OpensTerm, ClosesTerm};

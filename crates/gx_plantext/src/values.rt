@@ -5,7 +5,7 @@ ghost use Rattle.std.specs.Fmt.{signed_decimal};
 ghost use Rattle.std.specs.Str.{chars};
 ghost use Rattle.gx_typetext.specs.NameText.{name_text, type_name_text};
 ghost use Rattle.gx_typetext.specs.TypeText.{type_text};
-ghost use Rattle.gx_plantext.specs.PlanText.{number_text};
+ghost use Rattle.gx_plantext.specs.TermText.{number_text};
 
 use gx_base::name::Name;
 use gx_base::text_builder::TextBuilder;

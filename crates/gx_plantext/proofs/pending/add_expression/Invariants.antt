@@ -1,5 +1,6 @@
 use Rattle.std.proofs.Common.{◌≡◌, ◌++◌}
-use Rattle.gx_plantext.specs.PlanText.{fields_of, fields_text}
+use Rattle.gx_plantext.specs.TermText.{fields_text}
+use Rattle.gx_plantext.specs.PlanText.{fields_of}
 use Rattle.gx_plantext.specs.Printing.{printed_terms}
 use Rattle.gx_plantext.proofs.pending.add_expression.Given as goal
 

@@ -1,5 +1,6 @@
 use Rattle.std.proofs.Common.{◌≡◌, ◌++◌, map, length}
-use Rattle.gx_plantext.specs.PlanText.{fields_text, parameter_text}
+use Rattle.gx_plantext.specs.TermText.{fields_text}
+use Rattle.gx_plantext.specs.PlanText.{parameter_text}
 use Rattle.gx_plantext.specs.Printing.{is_first_behind}
 use Rattle.gx_plantext.proofs.print.add_parameters.Given as goal
 
