@@ -1,0 +1,3 @@
+pub mod TermLemmas
+pub mod PartLemmas
+pub mod LiteralLemmas
