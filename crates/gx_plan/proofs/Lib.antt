@@ -1,0 +1,3 @@
+pub mod FittingBindings
+pub mod FittingEvaluations
+pub mod ReplacingParts

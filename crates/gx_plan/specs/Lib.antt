@@ -1,2 +1,4 @@
 pub mod Plan
 pub mod Compiling
+pub mod Fitting
+pub mod SameMeaning

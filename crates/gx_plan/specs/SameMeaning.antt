@@ -1,0 +1,44 @@
+-- When expressions may stand for one another: where they come to the same.
+use Rattle.std.specs.Prelude.{◌≡◌, List, [], ◌∷◌, ◌++◌}
+use Rattle.gx_types.specs.SchemaSet.{SchemaSet}
+use Rattle.gx_types.specs.SequenceType.{SequenceType}
+use Rattle.gx_core.specs.declared.operator.Operator.{Operator}
+use Rattle.gx_core.specs.declared.signature.FunctionSignature.{FunctionSignature}
+use Rattle.gx_core.specs.Expression.{Parts, no_parts, a_part, annotation_of}
+use Rattle.gx_core.specs.Bindings.{Types}
+use Rattle.gx_core.specs.Meaning.{CallOutcomes, Denotation, denoted, meaning, meanings}
+use Rattle.gx_core.specs.Soundness.{TypedExpression, Setting, calling_setting, context_of, Situation, IsSound, PartsAreSound}
+use Rattle.gx_plan.specs.Compiling.{compiled}
+
+-- something comes to what an expression comes to, wherever that stands
+abbrev pub ComesToTheSame : Setting → Denotation → TypedExpression → Types → Type 0
+ComesToTheSame setting other e types =
+    (situation : Situation setting types)
+    → other situation.bindings situation.forest ≡ meaning (context_of setting) e situation.bindings situation.forest
+
+-- so do these, each to what one of the parts of an operator comes to, where the variables that the operator binds for it have types too
+abbrev pub PartsComeToTheSame : Setting → Operator → (before : List SequenceType) → List Denotation → Parts SequenceType → Types → Type 0
+PartsComeToTheSame setting operator before [] no_parts types = Unit {0}
+PartsComeToTheSame setting operator before (other ∷ others) (a_part first rest) types =
+    ComesToTheSame setting other first (setting.binders operator before ++ types)
+    × PartsComeToTheSame setting operator (before ++ annotation_of first ∷ []) others rest types
+PartsComeToTheSame setting operator before [] (a_part first rest) types = ⊥
+PartsComeToTheSame setting operator before (other ∷ others) no_parts types = ⊥
+
+-- parts of an operator that are sound may be replaced by what comes to the same
+abbrev pub SoundPartsMayBeReplaced : Type 0
+SoundPartsMayBeReplaced =
+    (schemas : SchemaSet) (known : List FunctionSignature) (calls : CallOutcomes) (operator : Operator) (parts : Parts SequenceType)
+    (others : List Denotation) (types : Types) (situation : Situation (calling_setting schemas known calls) types)
+    → PartsAreSound (calling_setting schemas known calls) operator [] parts types
+    → PartsComeToTheSame (calling_setting schemas known calls) operator [] others parts types
+    → denoted (context_of (calling_setting schemas known calls)) operator others situation.bindings situation.forest
+    ≡ denoted (context_of (calling_setting schemas known calls)) operator (meanings (context_of (calling_setting schemas known calls)) parts)
+    situation.bindings situation.forest
+
+-- what a sound expression is compiled to comes to the same
+abbrev pub CompilingKeeps : Type 0
+CompilingKeeps =
+    (schemas : SchemaSet) (known : List FunctionSignature) (calls : CallOutcomes) (e : TypedExpression) (types : Types)
+    → IsSound (calling_setting schemas known calls) e types
+    → ComesToTheSame (calling_setting schemas known calls) (meaning (context_of (calling_setting schemas known calls)) (compiled e)) e types
