@@ -1,3 +1,5 @@
 pub mod FittingBindings
 pub mod FittingEvaluations
 pub mod ReplacingParts
+pub mod UnlessWrong
+pub mod CompiledQueries

@@ -2,3 +2,4 @@ pub mod Plan
 pub mod Compiling
 pub mod Fitting
 pub mod SameMeaning
+pub mod TypeErrors

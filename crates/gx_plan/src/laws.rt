@@ -2,6 +2,8 @@
 
 ghost use Rattle.gx_plan.specs.Fitting.{EvaluationsFit};
 ghost use Rattle.gx_plan.specs.SameMeaning.{SoundPartsMayBeReplaced, CompilingKeeps};
+ghost use Rattle.gx_plan.specs.Compiling.{CompilingKeepsOutcomes};
+ghost use Rattle.gx_plan.specs.TypeErrors.{OperatorsAreSameUnlessWrong};
 
 /// Where the parts of an operator keep their types, it evaluates each part under bindings that fit the types of the variables that it
 /// binds for the part, in an honest forest that has grown.
@@ -17,4 +19,14 @@ pub fn sound_parts_may_be_replaced()
 /// What a sound expression is compiled to comes to the same as the expression.
 pub fn compiling_keeps()
     ensures { CompilingKeeps }
+{}
+
+/// What an operator comes to is the same but for type errors, where what its parts and calls of functions come to is.
+pub fn operators_are_same_unless_wrong()
+    ensures { OperatorsAreSameUnlessWrong }
+{}
+
+/// A compiled query has the outcome of the query that it is made of, where that is sound (XQuery 1.0, section 2.2.3).
+pub fn compiling_keeps_outcomes()
+    ensures { CompilingKeepsOutcomes }
 {}
