@@ -3,3 +3,5 @@ pub mod FittingEvaluations
 pub mod ReplacingParts
 pub mod UnlessWrong
 pub mod CompiledQueries
+pub mod AgreeingCalls
+pub mod StandIns

@@ -9,6 +9,7 @@ use Rattle.gx_types.specs.SequenceType.{SequenceType}
 use Rattle.gx_model.specs.Forest.{Forest}
 use Rattle.gx_model.specs.Honest.{IsHonest}
 use Rattle.gx_model.specs.Item.{Items}
+use Rattle.gx_model.specs.Growth.{Extends}
 use Rattle.gx_core.specs.declared.operator.Operator.{Operator}
 use Rattle.gx_core.specs.declared.operator.Operator.TheVariants as operators
 use Rattle.gx_core.specs.declared.signature.FunctionSignature.{FunctionSignature}
@@ -26,7 +27,7 @@ use Rattle.gx_core.proofs.DecidingParts.{parts_decide}
 use Rattle.gx_plan.specs.declared.plan.Carried.{Carried}
 use Rattle.gx_plan.specs.Compiling.{compiled_operator, compiled, compiled_parts}
 use Rattle.gx_plan.specs.Fitting.{PartsKeepTheirTypes, FitsAt}
-use Rattle.gx_plan.specs.SameMeaning.{ComesToTheSame, PartsComeToTheSame, SoundPartsMayBeReplaced, CompilingKeeps}
+use Rattle.gx_plan.specs.SameMeaning.{ComesToTheSame, PartsComeToTheSameFrom, SoundPartsMayBeReplaced, CompilingKeeps}
 use Rattle.gx_plan.proofs.FittingEvaluations.{evaluations_fit}
 
 -- sound parts keep their types
@@ -41,30 +42,30 @@ parts_keep s known calls operator before (a_part first others) types h = (
 
 -- ---- where a part stands, its counterpart comes to the same
 
-as_many : (s : SchemaSet) (known : List FunctionSignature) (calls : CallOutcomes) (operator : Operator) (before : List SequenceType) (parts : Parts SequenceType)
-    (others : List Denotation) (types : Types) → PartsComeToTheSame (calling_setting s known calls) operator before others parts types
+as_many : (s : SchemaSet) (known : List FunctionSignature) (calls : CallOutcomes) (start : Forest) (operator : Operator) (before : List SequenceType) (parts : Parts SequenceType)
+    (others : List Denotation) (types : Types) → PartsComeToTheSameFrom (calling_setting s known calls) start operator before others parts types
     → length (meanings (context_of (calling_setting s known calls)) parts) ≡ length others
-as_many s known calls operator before no_parts [] types h = refl
-as_many s known calls operator before no_parts (d ∷ others) types h = absurd h
-as_many s known calls operator before (a_part first rest) [] types h = absurd h
-as_many s known calls operator before (a_part first rest) (d ∷ others) types h = ap suc (as_many s known calls operator (before ++ annotation_of first ∷ []) rest others types h.1)
+as_many s known calls start operator before no_parts [] types h = refl
+as_many s known calls start operator before no_parts (d ∷ others) types h = absurd h
+as_many s known calls start operator before (a_part first rest) [] types h = absurd h
+as_many s known calls start operator before (a_part first rest) (d ∷ others) types h = ap suc (as_many s known calls start operator (before ++ annotation_of first ∷ []) rest others types h.1)
 
-same_there : (s : SchemaSet) (known : List FunctionSignature) (calls : CallOutcomes) (operator : Operator) (before : List SequenceType) (parts : Parts SequenceType)
-    (others : List Denotation) (types : Types) → PartsComeToTheSame (calling_setting s known calls) operator before others parts types
-    → (number : ℕ) (bindings : Bindings) (forest : Forest) → IsHonest s forest
+same_there : (s : SchemaSet) (known : List FunctionSignature) (calls : CallOutcomes) (start : Forest) (operator : Operator) (before : List SequenceType) (parts : Parts SequenceType)
+    (others : List Denotation) (types : Types) → PartsComeToTheSameFrom (calling_setting s known calls) start operator before others parts types
+    → (number : ℕ) (bindings : Bindings) (forest : Forest) → Extends start forest → IsHonest s forest
     → Fits s forest (types_bound operator (before ++ take number (each_of annotation_of parts)) ++ types) bindings
     → CallsKeepTypes (calling_setting s known calls) forest
     → option_map (λ (part : Denotation). part bindings forest) (slice_get (meanings (context_of (calling_setting s known calls)) parts) number)
     ≡ option_map (λ (part : Denotation). part bindings forest) (slice_get others number)
-same_there s known calls operator before no_parts [] types h number bindings forest honest fits calls_keep = refl
-same_there s known calls operator before no_parts (d ∷ others) types h number bindings forest honest fits calls_keep = absurd h
-same_there s known calls operator before (a_part first rest) [] types h number bindings forest honest fits calls_keep = absurd h
-same_there s known calls operator before (a_part first rest) (d ∷ others) types h zero bindings forest honest fits calls_keep =
+same_there s known calls start operator before no_parts [] types h number bindings forest grown honest fits calls_keep = refl
+same_there s known calls start operator before no_parts (d ∷ others) types h number bindings forest grown honest fits calls_keep = absurd h
+same_there s known calls start operator before (a_part first rest) [] types h number bindings forest grown honest fits calls_keep = absurd h
+same_there s known calls start operator before (a_part first rest) (d ∷ others) types h zero bindings forest grown honest fits calls_keep =
     let here : Fits s forest (types_bound operator before ++ types) bindings =
     subst (λ (ts : List SequenceType). Fits s forest (types_bound operator ts ++ types) bindings) (append-nil before) fits in
-    sym (ap (λ (o : Outcome Items). Some o) (h.0 (record { bindings = bindings; forest = forest; honest = honest; fits = here; calls_keep = calls_keep })))
-same_there s known calls operator before (a_part first rest) (d ∷ others) types h (suc number) bindings forest honest fits calls_keep =
-    same_there s known calls operator (before ++ annotation_of first ∷ []) rest others types h.1 number bindings forest honest
+    sym (ap (λ (o : Outcome Items). Some o) (h.0 (record { bindings = bindings; forest = forest; honest = honest; fits = here; calls_keep = calls_keep }) grown))
+same_there s known calls start operator before (a_part first rest) (d ∷ others) types h (suc number) bindings forest grown honest fits calls_keep =
+    same_there s known calls start operator (before ++ annotation_of first ∷ []) rest others types h.1 number bindings forest grown honest
     (subst (λ (ts : List SequenceType). Fits s forest (types_bound operator ts ++ types) bindings)
     (sym (append_assoc before (annotation_of first ∷ []) (take number (each_of annotation_of rest)))) fits)
     calls_keep
@@ -79,10 +80,10 @@ sound_parts_may_be_replaced s known calls operator parts others types situation 
     let context : Context = context_of setting in
     let ts : List SequenceType = each_of annotation_of parts in
     sym (parts_decide context operator (meanings context parts) others situation.bindings situation.forest
-    (as_many s known calls operator [] parts others types same)
+    (as_many s known calls situation.forest operator [] parts others types same)
     (all_so (FitsAt setting operator ts types situation.forest) (AgreeAt (meanings context parts) others)
     (evaluations context operator (meanings context parts) situation.bindings situation.forest)
-    (λ e fit. same_there s known calls operator [] parts others types same e.part e.bindings e.forest fit.honest fit.fits
+    (λ e fit. same_there s known calls situation.forest operator [] parts others types same e.part e.bindings e.forest fit.grown fit.honest fit.fits
     (calls_keep_still setting situation.forest e.forest fit.grown situation.calls_keep))
     (evaluations_fit s known calls operator (meanings context parts) ts types situation (parts_keep s known calls operator [] parts types sound)))).0
 
@@ -120,17 +121,17 @@ mutual
       let same : denoted context operator (meanings context (compiled_parts parts)) situation.bindings situation.forest
       ≡ denoted context operator (meanings context parts) situation.bindings situation.forest =
       sound_parts_may_be_replaced s known calls operator parts (meanings context (compiled_parts parts)) types situation h.1
-      (compiled_parts_same s known calls operator [] parts types h.1) in
+      (compiled_parts_same s known calls situation.forest operator [] parts types h.1) in
       compiled_means setting kind place outer kind operator (compiled_parts parts) situation.bindings situation.forest situation.forest
       (subst (λ (o : Outcome Items). Keeps setting situation.forest kind o) (sym same) (h.0 situation)) ∙ same
 
-  compiled_parts_same : (s : SchemaSet) (known : List FunctionSignature) (calls : CallOutcomes) (operator : Operator) (before : List SequenceType)
+  compiled_parts_same : (s : SchemaSet) (known : List FunctionSignature) (calls : CallOutcomes) (start : Forest) (operator : Operator) (before : List SequenceType)
       (parts : Parts SequenceType) (types : Types) → PartsAreSound (calling_setting s known calls) operator before parts types
-      → PartsComeToTheSame (calling_setting s known calls) operator before (meanings (context_of (calling_setting s known calls)) (compiled_parts parts)) parts types
-  compiled_parts_same s known calls operator before no_parts types h = tt
-  compiled_parts_same s known calls operator before (a_part first others) types h = (
-    compiled_same s known calls first (types_bound operator before ++ types) h.0,
-    compiled_parts_same s known calls operator (before ++ annotation_of first ∷ []) others types h.1,
+      → PartsComeToTheSameFrom (calling_setting s known calls) start operator before (meanings (context_of (calling_setting s known calls)) (compiled_parts parts)) parts types
+  compiled_parts_same s known calls start operator before no_parts types h = tt
+  compiled_parts_same s known calls start operator before (a_part first others) types h = (
+    (λ situation grown. compiled_same s known calls first (types_bound operator before ++ types) h.0 situation),
+    compiled_parts_same s known calls start operator (before ++ annotation_of first ∷ []) others types h.1,
   )
 
 pub compiling_keeps : CompilingKeeps

@@ -3,3 +3,4 @@ pub mod Compiling
 pub mod Fitting
 pub mod SameMeaning
 pub mod TypeErrors
+pub mod StandingFor

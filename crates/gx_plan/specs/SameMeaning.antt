@@ -2,6 +2,8 @@
 use Rattle.std.specs.Prelude.{◌≡◌, List, [], ◌∷◌, ◌++◌}
 use Rattle.gx_types.specs.SchemaSet.{SchemaSet}
 use Rattle.gx_types.specs.SequenceType.{SequenceType}
+use Rattle.gx_model.specs.Forest.{Forest}
+use Rattle.gx_model.specs.Growth.{Extends}
 use Rattle.gx_core.specs.declared.operator.Operator.{Operator}
 use Rattle.gx_core.specs.declared.signature.FunctionSignature.{FunctionSignature}
 use Rattle.gx_core.specs.Expression.{Parts, no_parts, a_part, annotation_of}
@@ -16,22 +18,29 @@ ComesToTheSame setting other e types =
     (situation : Situation setting types)
     → other situation.bindings situation.forest ≡ meaning (context_of setting) e situation.bindings situation.forest
 
--- so do these, each to what one of the parts of an operator comes to, where the variables that the operator binds for it have types too
-abbrev pub PartsComeToTheSame : Setting → Operator → (before : List SequenceType) → List Denotation → Parts SequenceType → Types → Type 0
-PartsComeToTheSame setting operator before [] no_parts types = Unit {0}
-PartsComeToTheSame setting operator before (other ∷ others) (a_part first rest) types =
-    ComesToTheSame setting other first (setting.binders operator before ++ types)
-    × PartsComeToTheSame setting operator (before ++ annotation_of first ∷ []) others rest types
-PartsComeToTheSame setting operator before [] (a_part first rest) types = ⊥
-PartsComeToTheSame setting operator before (other ∷ others) no_parts types = ⊥
+-- likewise in each forest that has grown from a first one
+abbrev pub ComesToTheSameFrom : Setting → (first : Forest) → Denotation → TypedExpression → Types → Type 0
+ComesToTheSameFrom setting first other e types =
+    (situation : Situation setting types) → Extends first situation.forest
+    → other situation.bindings situation.forest ≡ meaning (context_of setting) e situation.bindings situation.forest
 
--- parts of an operator that are sound may be replaced by what comes to the same
+-- so do these, each to what one of the parts of an operator comes to, where the variables that the operator binds for it have types too
+abbrev pub PartsComeToTheSameFrom : Setting → (first : Forest) → Operator → (before : List SequenceType) → List Denotation → Parts SequenceType
+    → Types → Type 0
+PartsComeToTheSameFrom setting first operator before [] no_parts types = Unit {0}
+PartsComeToTheSameFrom setting first operator before (other ∷ others) (a_part part rest) types =
+    ComesToTheSameFrom setting first other part (setting.binders operator before ++ types)
+    × PartsComeToTheSameFrom setting first operator (before ++ annotation_of part ∷ []) others rest types
+PartsComeToTheSameFrom setting first operator before [] (a_part part rest) types = ⊥
+PartsComeToTheSameFrom setting first operator before (other ∷ others) no_parts types = ⊥
+
+-- parts of an operator that are sound may be replaced by what comes to the same from then on
 abbrev pub SoundPartsMayBeReplaced : Type 0
 SoundPartsMayBeReplaced =
     (schemas : SchemaSet) (known : List FunctionSignature) (calls : CallOutcomes) (operator : Operator) (parts : Parts SequenceType)
     (others : List Denotation) (types : Types) (situation : Situation (calling_setting schemas known calls) types)
     → PartsAreSound (calling_setting schemas known calls) operator [] parts types
-    → PartsComeToTheSame (calling_setting schemas known calls) operator [] others parts types
+    → PartsComeToTheSameFrom (calling_setting schemas known calls) situation.forest operator [] others parts types
     → denoted (context_of (calling_setting schemas known calls)) operator others situation.bindings situation.forest
     ≡ denoted (context_of (calling_setting schemas known calls)) operator (meanings (context_of (calling_setting schemas known calls)) parts)
     situation.bindings situation.forest

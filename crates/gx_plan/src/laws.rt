@@ -2,6 +2,8 @@
 
 ghost use Rattle.gx_plan.specs.Fitting.{EvaluationsFit};
 ghost use Rattle.gx_plan.specs.SameMeaning.{SoundPartsMayBeReplaced, CompilingKeeps};
+ghost use Rattle.gx_plan.specs.StandingFor.{SameExpressionsMayStandFor, StandInsHaveTheOutcome};
+ghost use Rattle.gx_plan.specs.declared.plan.Carried.{Carried};
 ghost use Rattle.gx_plan.specs.Compiling.{CompilingKeepsOutcomes};
 ghost use Rattle.gx_plan.specs.TypeErrors.{OperatorsAreSameUnlessWrong};
 
@@ -29,4 +31,14 @@ pub fn operators_are_same_unless_wrong()
 /// A compiled query has the outcome of the query that it is made of, where that is sound (XQuery 1.0, section 2.2.3).
 pub fn compiling_keeps_outcomes()
     ensures { CompilingKeepsOutcomes }
+{}
+
+/// What comes to the same as a sound expression whose calls take their arguments may stand for it.
+pub fn same_expressions_may_stand_for()
+    ensures { SameExpressionsMayStandFor Carried }
+{}
+
+/// A query that may stand for a sound one has its outcome, however many calls may be active.
+pub fn stand_ins_have_the_outcome()
+    ensures { StandInsHaveTheOutcome Carried }
 {}
