@@ -5,3 +5,4 @@ pub mod UnlessWrong
 pub mod CompiledQueries
 pub mod AgreeingCalls
 pub mod StandIns
+pub mod SameOutcomes

@@ -4,3 +4,4 @@ pub mod Fitting
 pub mod SameMeaning
 pub mod TypeErrors
 pub mod StandingFor
+pub mod SameQueries

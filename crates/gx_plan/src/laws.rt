@@ -3,6 +3,7 @@
 ghost use Rattle.gx_plan.specs.Fitting.{EvaluationsFit};
 ghost use Rattle.gx_plan.specs.SameMeaning.{SoundPartsMayBeReplaced, CompilingKeeps};
 ghost use Rattle.gx_plan.specs.StandingFor.{SameExpressionsMayStandFor, StandInsHaveTheOutcome};
+ghost use Rattle.gx_plan.specs.SameQueries.{SameQueriesHaveTheOutcome};
 ghost use Rattle.gx_plan.specs.declared.plan.Carried.{Carried};
 ghost use Rattle.gx_plan.specs.Compiling.{CompilingKeepsOutcomes};
 ghost use Rattle.gx_plan.specs.TypeErrors.{OperatorsAreSameUnlessWrong};
@@ -41,4 +42,10 @@ pub fn same_expressions_may_stand_for()
 /// A query that may stand for a sound one has its outcome, however many calls may be active.
 pub fn stand_ins_have_the_outcome()
     ensures { StandInsHaveTheOutcome Carried }
+{}
+
+/// A query whose expressions come to the same as those of a query that is sound throughout has its outcome, however many calls may be
+/// active.
+pub fn same_queries_have_the_outcome()
+    ensures { SameQueriesHaveTheOutcome Carried }
 {}
