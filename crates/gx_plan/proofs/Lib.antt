@@ -1,4 +1,8 @@
 pub mod FittingBindings
+pub mod GivenFacts
+pub mod PartsBefore
+pub mod FittingParts
+pub mod FittingBlocks
 pub mod FittingEvaluations
 pub mod ReplacingParts
 pub mod UnlessWrong

@@ -26,66 +26,91 @@ use Rattle.gx_core.proofs.SoundQueries.{keeps_its_type}
 use Rattle.gx_core.proofs.DecidingParts.{parts_decide}
 use Rattle.gx_plan.specs.declared.plan.Carried.{Carried}
 use Rattle.gx_plan.specs.Compiling.{compiled_operator, compiled, compiled_parts}
-use Rattle.gx_plan.specs.Fitting.{PartsKeepTheirTypes, FitsAt}
-use Rattle.gx_plan.specs.SameMeaning.{ComesToTheSame, PartsComeToTheSameFrom, SoundPartsMayBeReplaced, CompilingKeeps}
+use Rattle.gx_plan.specs.Fitting.{PartsKeepTheirTypes, FitsAt, IsWellBound, PartsAreWellBound, SoundExpressionsAreWellBound}
+use Rattle.gx_plan.specs.SameMeaning.{ComesToTheSame, PartsComeToTheSameFrom, WellBoundPartsMayBeReplaced, CompilingKeeps}
 use Rattle.gx_plan.proofs.FittingEvaluations.{evaluations_fit}
 
+-- ---- sound expressions are well bound
+
 -- sound parts keep their types
-parts_keep : (s : SchemaSet) (known : List FunctionSignature) (calls : CallOutcomes) (operator : Operator) (before : List SequenceType) (parts : Parts SequenceType)
-    (types : Types) → PartsAreSound (calling_setting s known calls) operator before parts types
-    → PartsKeepTheirTypes (calling_setting s known calls) operator before (meanings (context_of (calling_setting s known calls)) parts) (each_of annotation_of parts) types
-parts_keep s known calls operator before no_parts types h = tt
-parts_keep s known calls operator before (a_part first others) types h = (
-  keeps_its_type (calling_setting s known calls) first (types_bound operator before ++ types) h.0,
-  parts_keep s known calls operator (before ++ annotation_of first ∷ []) others types h.1,
+pub parts_keep : (setting : Setting) (operator : Operator) (before : List SequenceType) (parts : Parts SequenceType) (types : Types)
+    → PartsAreSound setting operator before parts types
+    → PartsKeepTheirTypes setting operator before (meanings (context_of setting) parts) (each_of annotation_of parts) types
+parts_keep setting operator before no_parts types h = tt
+parts_keep setting operator before (a_part first others) types h = (
+  keeps_its_type setting first (setting.binders operator before ++ types) h.0,
+  parts_keep setting operator (before ++ annotation_of first ∷ []) others types h.1,
 )
+
+mutual
+  well_bound : (s : SchemaSet) (known : List FunctionSignature) (calls : CallOutcomes) (e : TypedExpression) (types : Types)
+      → IsSound (calling_setting s known calls) e types → IsWellBound (calling_setting s known calls) e types
+  well_bound s known calls (At place outer kind operator parts) types h =
+      let setting : Setting = calling_setting s known calls in (
+        (λ situation. evaluations_fit s known calls operator (meanings (context_of setting) parts) (each_of annotation_of parts) types situation
+            (parts_keep setting operator [] parts types h.1)),
+        parts_well_bound s known calls operator [] parts types h.1,
+      )
+
+  parts_well_bound : (s : SchemaSet) (known : List FunctionSignature) (calls : CallOutcomes) (operator : Operator) (before : List SequenceType)
+      (parts : Parts SequenceType) (types : Types) → PartsAreSound (calling_setting s known calls) operator before parts types
+      → PartsAreWellBound (calling_setting s known calls) operator before parts types
+  parts_well_bound s known calls operator before no_parts types h = tt
+  parts_well_bound s known calls operator before (a_part first others) types h = (
+    well_bound s known calls first (types_bound operator before ++ types) h.0,
+    parts_well_bound s known calls operator (before ++ annotation_of first ∷ []) others types h.1,
+  )
+
+pub sound_expressions_are_well_bound : SoundExpressionsAreWellBound
+sound_expressions_are_well_bound s known calls e types h = well_bound s known calls e types h
 
 -- ---- where a part stands, its counterpart comes to the same
 
-as_many : (s : SchemaSet) (known : List FunctionSignature) (calls : CallOutcomes) (start : Forest) (operator : Operator) (before : List SequenceType) (parts : Parts SequenceType)
-    (others : List Denotation) (types : Types) → PartsComeToTheSameFrom (calling_setting s known calls) start operator before others parts types
-    → length (meanings (context_of (calling_setting s known calls)) parts) ≡ length others
-as_many s known calls start operator before no_parts [] types h = refl
-as_many s known calls start operator before no_parts (d ∷ others) types h = absurd h
-as_many s known calls start operator before (a_part first rest) [] types h = absurd h
-as_many s known calls start operator before (a_part first rest) (d ∷ others) types h = ap suc (as_many s known calls start operator (before ++ annotation_of first ∷ []) rest others types h.1)
+as_many : (setting : Setting) (start : Forest) (operator : Operator) (before : List SequenceType) (parts : Parts SequenceType) (others : List Denotation)
+    (types : Types) → PartsComeToTheSameFrom setting start operator before others parts types
+    → length (meanings (context_of setting) parts) ≡ length others
+as_many setting start operator before no_parts [] types h = refl
+as_many setting start operator before no_parts (d ∷ others) types h = absurd h
+as_many setting start operator before (a_part first rest) [] types h = absurd h
+as_many setting start operator before (a_part first rest) (d ∷ others) types h =
+    ap suc (as_many setting start operator (before ++ annotation_of first ∷ []) rest others types h.1)
 
-same_there : (s : SchemaSet) (known : List FunctionSignature) (calls : CallOutcomes) (start : Forest) (operator : Operator) (before : List SequenceType) (parts : Parts SequenceType)
-    (others : List Denotation) (types : Types) → PartsComeToTheSameFrom (calling_setting s known calls) start operator before others parts types
-    → (number : ℕ) (bindings : Bindings) (forest : Forest) → Extends start forest → IsHonest s forest
-    → Fits s forest (types_bound operator (before ++ take number (each_of annotation_of parts)) ++ types) bindings
-    → CallsKeepTypes (calling_setting s known calls) forest
-    → option_map (λ (part : Denotation). part bindings forest) (slice_get (meanings (context_of (calling_setting s known calls)) parts) number)
+same_there : (setting : Setting) (start : Forest) (operator : Operator) (before : List SequenceType) (parts : Parts SequenceType) (others : List Denotation)
+    (types : Types) → PartsComeToTheSameFrom setting start operator before others parts types
+    → (number : ℕ) (bindings : Bindings) (forest : Forest) → Extends start forest → IsHonest setting.schemas forest
+    → Fits setting.schemas forest (setting.binders operator (before ++ take number (each_of annotation_of parts)) ++ types) bindings
+    → CallsKeepTypes setting forest
+    → option_map (λ (part : Denotation). part bindings forest) (slice_get (meanings (context_of setting) parts) number)
     ≡ option_map (λ (part : Denotation). part bindings forest) (slice_get others number)
-same_there s known calls start operator before no_parts [] types h number bindings forest grown honest fits calls_keep = refl
-same_there s known calls start operator before no_parts (d ∷ others) types h number bindings forest grown honest fits calls_keep = absurd h
-same_there s known calls start operator before (a_part first rest) [] types h number bindings forest grown honest fits calls_keep = absurd h
-same_there s known calls start operator before (a_part first rest) (d ∷ others) types h zero bindings forest grown honest fits calls_keep =
-    let here : Fits s forest (types_bound operator before ++ types) bindings =
-    subst (λ (ts : List SequenceType). Fits s forest (types_bound operator ts ++ types) bindings) (append-nil before) fits in
-    sym (ap (λ (o : Outcome Items). Some o) (h.0 (record { bindings = bindings; forest = forest; honest = honest; fits = here; calls_keep = calls_keep }) grown))
-same_there s known calls start operator before (a_part first rest) (d ∷ others) types h (suc number) bindings forest grown honest fits calls_keep =
-    same_there s known calls start operator (before ++ annotation_of first ∷ []) rest others types h.1 number bindings forest grown honest
-    (subst (λ (ts : List SequenceType). Fits s forest (types_bound operator ts ++ types) bindings)
-    (sym (append_assoc before (annotation_of first ∷ []) (take number (each_of annotation_of rest)))) fits)
-    calls_keep
+same_there setting start operator before no_parts [] types h number bindings forest grown honest fits calls_keep = refl
+same_there setting start operator before no_parts (d ∷ others) types h number bindings forest grown honest fits calls_keep = absurd h
+same_there setting start operator before (a_part first rest) [] types h number bindings forest grown honest fits calls_keep = absurd h
+same_there setting start operator before (a_part first rest) (d ∷ others) types h zero bindings forest grown honest fits calls_keep =
+    let here : Fits setting.schemas forest (setting.binders operator before ++ types) bindings =
+    subst (λ (ts : List SequenceType). Fits setting.schemas forest (setting.binders operator ts ++ types) bindings) (append-nil before) fits in
+    sym (ap (λ (o : Outcome Items). Some o)
+    (h.0 (record { bindings = bindings; forest = forest; honest = honest; fits = here; calls_keep = calls_keep }) grown))
+same_there setting start operator before (a_part first rest) (d ∷ others) types h (suc number) bindings forest grown honest fits calls_keep =
+    same_there setting start operator (before ++ annotation_of first ∷ []) rest others types h.1 number bindings forest grown honest
+    (subst (λ (ts : List SequenceType). Fits setting.schemas forest (setting.binders operator ts ++ types) bindings)
+    (sym (append_assoc before (annotation_of first ∷ []) (take number (each_of annotation_of rest)))) fits) calls_keep
 
-all_so : (P Q : PartEvaluation → Type 0) (es : List PartEvaluation) → ((e : PartEvaluation) → P e → Q e) → AllByRecursion P es → AllByRecursion Q es
+all_so : (P Q : PartEvaluation → Type 0) (es : List PartEvaluation) → ((e : PartEvaluation) → P e → Q e) → AllByRecursion P es
+    → AllByRecursion Q es
 all_so P Q [] h k = tt
 all_so P Q (e ∷ es) h k = (h e k.0, all_so P Q es h k.1)
 
-pub sound_parts_may_be_replaced : SoundPartsMayBeReplaced
-sound_parts_may_be_replaced s known calls operator parts others types situation sound same =
-    let setting : Setting = calling_setting s known calls in
+pub well_bound_parts_may_be_replaced : WellBoundPartsMayBeReplaced
+well_bound_parts_may_be_replaced setting operator parts others types situation well same =
     let context : Context = context_of setting in
     let ts : List SequenceType = each_of annotation_of parts in
     sym (parts_decide context operator (meanings context parts) others situation.bindings situation.forest
-    (as_many s known calls situation.forest operator [] parts others types same)
+    (as_many setting situation.forest operator [] parts others types same)
     (all_so (FitsAt setting operator ts types situation.forest) (AgreeAt (meanings context parts) others)
     (evaluations context operator (meanings context parts) situation.bindings situation.forest)
-    (λ e fit. same_there s known calls situation.forest operator [] parts others types same e.part e.bindings e.forest fit.grown fit.honest fit.fits
+    (λ e fit. same_there setting situation.forest operator [] parts others types same e.part e.bindings e.forest fit.grown fit.honest fit.fits
     (calls_keep_still setting situation.forest e.forest fit.grown situation.calls_keep))
-    (evaluations_fit s known calls operator (meanings context parts) ts types situation (parts_keep s known calls operator [] parts types sound)))).0
+    (well situation))).0
 
 -- ---- compiling
 
@@ -120,7 +145,8 @@ mutual
       let context : Context = context_of setting in
       let same : denoted context operator (meanings context (compiled_parts parts)) situation.bindings situation.forest
       ≡ denoted context operator (meanings context parts) situation.bindings situation.forest =
-      sound_parts_may_be_replaced s known calls operator parts (meanings context (compiled_parts parts)) types situation h.1
+      well_bound_parts_may_be_replaced setting operator parts (meanings context (compiled_parts parts)) types situation
+      (well_bound s known calls (At place outer kind operator parts) types h).0
       (compiled_parts_same s known calls situation.forest operator [] parts types h.1) in
       compiled_means setting kind place outer kind operator (compiled_parts parts) situation.bindings situation.forest situation.forest
       (subst (λ (o : Outcome Items). Keeps setting situation.forest kind o) (sym same) (h.0 situation)) ∙ same

@@ -2,7 +2,7 @@
 use Rattle.std.proofs.Common.{◌≡◌, ◌⊎◌, inl, inr, ℕ, zero, suc, Bool, true, false, List, [], ◌∷◌, ◌++◌, map, Option, None, Some, refl, sym, ◌∙◌, ap, subst, nat_eq, if◌then◌else◌}
 use Rattle.std.specs.Prelude.{Contains, option_map}
 use Rattle.std.specs.List.{slice_get}
-use Rattle.std.proofs.lemmas.Bool.{eqb-true}
+use Rattle.std.proofs.lemmas.Bool.{eqb-true, ne_eqb}
 use Rattle.gx_types.specs.SchemaSet.{SchemaSet}
 use Rattle.gx_types.specs.SequenceType.{SequenceType}
 use Rattle.gx_model.specs.Forest.{PlainNode, Forest}
@@ -30,7 +30,8 @@ use Rattle.gx_core.specs.QueryMeaning.{plain_declaration, globals_bound, outcome
 use Rattle.gx_core.proofs.CallLemmas.{calls_end, calls_go_on, function_called, slice_map}
 use Rattle.gx_core.proofs.KeptFacts.{fact_after, fact_at_once, bindings_fit_still, binding_fits}
 use Rattle.gx_core.proofs.SoundQueries.{keeps_its_type}
-use Rattle.gx_plan.specs.StandingFor.{MayStandFor, types_named, FunctionMayStandFor, DeclarationsMayStandFor, StandInsHaveTheOutcome}
+use Rattle.gx_plan.specs.FullSoundness.{types_named, body_types}
+use Rattle.gx_plan.specs.StandingFor.{MayStandFor, FunctionMayStandFor, DeclarationsMayStandFor, KeepsItsTypeWithCalls, FunctionKeepsItsTypes, DeclarationsKeepTheirTypes, PartsOfSoundQueriesKeepTheirTypes, StandInsHaveTheOutcome}
 use Rattle.gx_plan.proofs.AgreeingCalls.{same_after}
 
 -- ---- two outcomes that are the same, and keep a fact
@@ -95,6 +96,24 @@ named_fit : (s : SchemaSet) (forest : Forest) (e : TypedExpression) (types : Typ
     → Fits s forest (types_named e types) bindings
 named_fit s forest e types bindings fits number t found = let p = named_so e types number t found in fits number t p.0 p.1
 
+-- the other way round
+named_found : (e : TypedExpression) (types : Types) (number : ℕ) → is_free_in e number ≡ true → look_up types number ≡ look_up (types_named e types) number
+named_found e [] number free = refl
+named_found e (binding ∷ types) number free =
+    let rest = named_found e types number free in
+    elim (is_free_in e binding.0) as (λ (here : Bool). is_free_in e binding.0 ≡ here
+    → look_up (binding ∷ types) number ≡ look_up (if here then binding ∷ types_named e types else types_named e types) number) [
+      | true ↦ λ is. ap (λ (o : Option SequenceType). if nat_eq binding.0 number then Some binding.1 else o) rest
+      | false ↦ λ is.
+          let apart : nat_eq binding.0 number ≡ false =
+          ne_eqb binding.0 number (λ same. let other : is_free_in e number ≡ false = subst (λ (n : ℕ). is_free_in e n ≡ false) same is in absurd (cc)) in
+          ap (λ (same : Bool). if same then Some binding.1 else look_up types number) apart ∙ rest
+    ] refl
+
+fit_named : (s : SchemaSet) (forest : Forest) (e : TypedExpression) (types : Types) (bindings : Bindings) → Fits s forest (types_named e types) bindings
+    → FitsFree s forest e types bindings
+fit_named s forest e types bindings fits number t free there = fits number t (sym (named_found e types number free) ∙ there)
+
 -- ---- arguments
 
 -- what is bound to a parameter is of its type; another variable has what it has without the parameters
@@ -135,10 +154,10 @@ called_fits s functions types known signature c globals base now values fits e b
 abbrev function_in : TypedFunction × Types → TypedFunction
 function_in f = f.0
 
--- all functions are sound where they are declared
-abbrev FunctionsAreSound : SchemaSet → List (TypedFunction × Types) → Type 0
-FunctionsAreSound s functions =
-    (number : ℕ) (f : TypedFunction) (before : Types) → slice_get functions number ≡ Some (f, before) → IsSoundFunction s f before
+-- the values of all functions keep their types, where these are declared
+abbrev FunctionsKeep : SchemaSet → List (TypedFunction × Types) → Type 0
+FunctionsKeep s functions =
+    (number : ℕ) (f : TypedFunction) (before : Types) → slice_get functions number ≡ Some (f, before) → FunctionKeepsItsTypes s f before
 
 -- the function with the same number among others may stand for a function
 record StandIn {A : Type 0} (s : SchemaSet) (others : List (DeclaredFunction A)) (number : ℕ) (f : TypedFunction) (before : Types) : Type 0 where
@@ -153,7 +172,7 @@ FunctionsMayStandFor s others functions =
 -- calls of functions that may be called keep their types and come to the same, however many may be active
 calls_same : (A : Type 0) (s : SchemaSet) (functions : List (TypedFunction × Types)) (others : List (DeclaredFunction A)) (types : Types) (known : List FunctionSignature)
     (globals : Bindings) (base : Forest) (left : ℕ)
-    → ((signature : FunctionSignature) → Contains known signature → IsCallable functions types known signature) → FunctionsAreSound s functions
+    → ((signature : FunctionSignature) → Contains known signature → IsCallable functions types known signature) → FunctionsKeep s functions
     → FunctionsMayStandFor s others functions → Fits s base types globals
     → (now : Forest) (signature : FunctionSignature) (values : List Items) → Contains known signature → Extends base now → IsHonest s now
     → AreOfTypes s signature.parameters now values
@@ -168,7 +187,7 @@ calls_same A s functions others types known globals base (suc left) callable sou
     let fs : List TypedFunction = map function_in functions in
     let c : IsCallable functions types known signature = callable signature k in
     let f : TypedFunction = c.function in
-    let own : IsSoundFunction s f c.before = sound signature.number f c.before c.declared in
+    let own : FunctionKeepsItsTypes s f c.before = sound signature.number f c.before c.declared in
     let found : slice_get fs signature.number ≡ Some f =
     slice_map function_in functions signature.number ∙ ap (λ (o : Option (TypedFunction × Types)). option_map function_in o) c.declared in
     let i : StandIn s others signature.number f c.before = stand signature.number f c.before c.declared in
@@ -179,7 +198,7 @@ calls_same A s functions others types known globals base (suc left) callable sou
     (b : AreOfTypes s called.parameters last vs). calls_same A s functions others types known globals base left callable sound stand fits last called vs m
     (growth_is_an_order.transitive base now last e d) h b in
     let keep : CallsKeepTypes (calling_setting s known (calls_over s fs globals left)) now = λ last called vs m d h b. (inner last called vs m d h b).1 in
-    let situation : Situation (calling_setting s known (calls_over s fs globals left)) (types_named f.body (parameter_types f.parameters ++ c.before)) = record {
+    let situation : Situation (calling_setting s known (calls_over s fs globals left)) (body_types f c.before) = record {
       bindings = bindings;
       forest = now;
       honest = honest;
@@ -203,14 +222,14 @@ calls_same A s functions others types known globals base (suc left) callable sou
     (same_kept_after s now (IsOfType s (annotation_of f.body)) (IsOfType s f.result) (meaning (context_over s others globals left) i.other.body bindings now)
     (meaning (context_over s fs globals left) f.body bindings now) (λ xs last. converted s f.result xs last) (λ xs last. converted s f.result xs last) (
       i.stands.body known (calls_over s fs globals left) (calls_over s others globals left) c.calls situation (λ last called vs m d h b. (inner last called vs m d h b).0),
-      own.keeps known (calls_over s fs globals left) bindings now c.calls honest keep free,
+      own.body known (calls_over s fs globals left) c.calls situation,
     )
     (λ xs last g still b. (refl, own.converts last xs still b))))
 
 -- an expression of a sound query, and one that may stand for it
 expression_same : (A : Type 0) (s : SchemaSet) (functions : List (TypedFunction × Types)) (others : List (DeclaredFunction A)) (limit : ℕ)
-    (e : TypedExpression) (other : Expression A) (types : Types) (bindings : Bindings) (forest : Forest) → FunctionsAreSound s functions → FunctionsMayStandFor s others functions
-    → IsHonest s forest → Fits s forest types bindings → IsSoundWithCalls s e types → CallsCallable functions types e → MayStandFor s other e types
+    (e : TypedExpression) (other : Expression A) (types : Types) (bindings : Bindings) (forest : Forest) → FunctionsKeep s functions → FunctionsMayStandFor s others functions
+    → IsHonest s forest → Fits s forest types bindings → KeepsItsTypeWithCalls s e types → CallsCallable functions types e → MayStandFor s other e types
     → SameKept s forest (IsOfType s (annotation_of e)) (meaning (context_over s others bindings limit) other bindings forest)
     (meaning (context_over s (map function_in functions) bindings limit) e bindings forest)
 expression_same A s functions others limit e other types bindings forest all stand honest fits sound c stands =
@@ -224,7 +243,7 @@ expression_same A s functions others limit e other types bindings forest all sta
       calls_keep = λ now signature values k g h b. (both now signature values k g h b).1;
     } in (
       stands c.known calls (calls_over s others bindings limit) c.calls situation (λ now signature values k g h b. (both now signature values k g h b).0),
-      keeps_its_type (calling_setting s c.known calls) e types (sound c.known calls c.calls) situation,
+      sound c.known calls c.calls situation,
     )
 
 -- ---- globals
@@ -252,8 +271,8 @@ document_fits s forest binder (Some t) document types bindings h fits =
 
 globals_same : (A : Type 0) (s : SchemaSet) (functions : List (TypedFunction × Types)) (fs : List (DeclaredFunction A)) (limit : ℕ) (others : List (Declaration A))
     (ds : List TypedDeclaration) (documents : List PlainNode) (types : Types) (bindings : Bindings) (forest : Forest)
-    → FunctionsAreSound s functions → FunctionsMayStandFor s fs functions → IsHonest s forest → Fits s forest types bindings
-    → DeclarationsAreSound s functions ds types → DeclarationsMayStandFor s others ds types → DocumentsFit s forest (map plain_declaration ds) documents
+    → FunctionsKeep s functions → FunctionsMayStandFor s fs functions → IsHonest s forest → Fits s forest types bindings
+    → DeclarationsKeepTheirTypes s functions ds types → DeclarationsMayStandFor s others ds types → DocumentsFit s forest (map plain_declaration ds) documents
     → SameKept s forest (λ now found. Fits s now (types_declared ds types) found) (globals_bound s fs limit others documents bindings forest)
     (globals_bound s (map function_in functions) limit ds documents bindings forest)
 globals_same A s functions fs limit [] [] documents types bindings forest all stand honest fits sound stands fit =
@@ -305,13 +324,13 @@ abbrev HoldsIfThere : (TypedFunction → Types → Type 0) → Option (TypedFunc
 HoldsIfThere Holds None = Unit {0}
 HoldsIfThere Holds (Some f) = Holds f.0 f.1
 
-functions_sound : (s : SchemaSet) (all : List (TypedFunction × Types)) (ds : List TypedDeclaration) (types : Types) → DeclarationsAreSound s all ds types
-    → FunctionsAreSound s (functions_declared ds types)
-functions_sound s all [] types sound number f before found = absurd (cc)
-functions_sound s all (Function g ∷ ds) types sound zero f before found = subst (HoldsIfThere (λ h b. IsSoundFunction s h b)) found sound.0
-functions_sound s all (Function g ∷ ds) types sound (suc number) f before found = functions_sound s all ds types sound.1 number f before found
-functions_sound s all (Global name binder value ∷ ds) types sound number f before found =
-    functions_sound s all ds (global_types (Global name binder value) ++ types) sound.1 number f before found
+functions_keep : (s : SchemaSet) (all : List (TypedFunction × Types)) (ds : List TypedDeclaration) (types : Types) → DeclarationsKeepTheirTypes s all ds types
+    → FunctionsKeep s (functions_declared ds types)
+functions_keep s all [] types sound number f before found = absurd (cc)
+functions_keep s all (Function g ∷ ds) types sound zero f before found = subst (HoldsIfThere (λ h b. FunctionKeepsItsTypes s h b)) found sound.0
+functions_keep s all (Function g ∷ ds) types sound (suc number) f before found = functions_keep s all ds types sound.1 number f before found
+functions_keep s all (Global name binder value ∷ ds) types sound number f before found =
+    functions_keep s all ds (global_types (Global name binder value) ++ types) sound.1 number f before found
 
 functions_stand : (A : Type 0) (s : SchemaSet) (others : List (Declaration A)) (ds : List TypedDeclaration) (types : Types) → DeclarationsMayStandFor s others ds types
     → FunctionsMayStandFor s (functions_of others) (functions_declared ds types)
@@ -336,7 +355,7 @@ stand_ins_have_the_outcome A limit s query other documents forest honest fit h s
     let functions : List (TypedFunction × Types) = functions_declared query.declarations [] in
     let types : Types = types_declared query.declarations [] in
     let fs : List (DeclaredFunction A) = functions_of other.declarations in
-    let all : FunctionsAreSound s functions = functions_sound s functions query.declarations [] h.declarations in
+    let all : FunctionsKeep s functions = functions_keep s functions query.declarations [] h.declarations in
     let stand : FunctionsMayStandFor s fs functions = functions_stand A s other.declarations query.declarations [] stands.declarations in
     subst (λ (gs : List TypedFunction). outcome_within limit s other documents forest
     ≡ after (globals_bound s gs limit query.declarations documents [] forest) (λ bindings left. meaning (context_over s gs bindings limit) query.body bindings left))
@@ -347,3 +366,33 @@ stand_ins_have_the_outcome A limit s query other documents forest honest fit h s
     (λ bindings left. meaning (context_over s (map function_in functions) bindings limit) query.body bindings left)
     (globals_same A s functions fs limit other.declarations query.declarations documents [] [] forest all stand honest (λ number t found. absurd (cc)) h.declarations stands.declarations fit)
     (λ bindings now e still fits. expression_same A s functions fs limit query.body other.body types bindings now all stand still fits h.body h.calls stands.body)).0
+
+-- ---- sound queries
+
+function_keeps : (s : SchemaSet) (f : TypedFunction) (before : Types) → IsSoundFunction s f before → FunctionKeepsItsTypes s f before
+function_keeps s f before h = record {
+  body = λ known calls called situation. h.keeps known calls situation.bindings situation.forest called situation.honest situation.calls_keep
+      (fit_named s situation.forest f.body (parameter_types f.parameters ++ before) situation.bindings situation.fits);
+  converts = h.converts;
+}
+
+expression_keeps : (s : SchemaSet) (e : TypedExpression) (types : Types) → IsSoundWithCalls s e types → KeepsItsTypeWithCalls s e types
+expression_keeps s e types h known calls called = keeps_its_type (calling_setting s known calls) e types (h known calls called)
+
+declarations_keep : (s : SchemaSet) (functions : List (TypedFunction × Types)) (ds : List TypedDeclaration) (types : Types)
+    → DeclarationsAreSound s functions ds types → DeclarationsKeepTheirTypes s functions ds types
+declarations_keep s functions [] types h = tt
+declarations_keep s functions (Global name binder (Some value) ∷ ds) types h = (
+  (expression_keeps s value types h.0.0, h.0.1),
+  declarations_keep s functions ds (global_types (Global name binder (Some value)) ++ types) h.1,
+)
+declarations_keep s functions (Global name binder None ∷ ds) types h =
+    (tt, declarations_keep s functions ds (global_types (Global name binder None) ++ types) h.1)
+declarations_keep s functions (Function f ∷ ds) types h = (function_keeps s f types h.0, declarations_keep s functions ds types h.1)
+
+pub parts_of_sound_queries_keep_their_types : PartsOfSoundQueriesKeepTheirTypes
+parts_of_sound_queries_keep_their_types s query h = record {
+  declarations = declarations_keep s (functions_declared query.declarations []) query.declarations [] h.declarations;
+  body = expression_keeps s query.body (types_declared query.declarations []) h.body;
+  calls = h.calls;
+}

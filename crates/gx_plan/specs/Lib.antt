@@ -3,5 +3,6 @@ pub mod Compiling
 pub mod Fitting
 pub mod SameMeaning
 pub mod TypeErrors
+pub mod FullSoundness
 pub mod StandingFor
 pub mod SameQueries

@@ -9,8 +9,9 @@ use Rattle.gx_core.specs.declared.signature.FunctionSignature.{FunctionSignature
 use Rattle.gx_core.specs.Expression.{Parts, no_parts, a_part, annotation_of}
 use Rattle.gx_core.specs.Bindings.{Types}
 use Rattle.gx_core.specs.Meaning.{CallOutcomes, Denotation, denoted, meaning, meanings}
-use Rattle.gx_core.specs.Soundness.{TypedExpression, Setting, calling_setting, context_of, Situation, IsSound, PartsAreSound}
+use Rattle.gx_core.specs.Soundness.{TypedExpression, Setting, calling_setting, context_of, Situation, IsSound}
 use Rattle.gx_plan.specs.Compiling.{compiled}
+use Rattle.gx_plan.specs.Fitting.{BindsWell}
 
 -- something comes to what an expression comes to, wherever that stands
 abbrev pub ComesToTheSame : Setting → Denotation → TypedExpression → Types → Type 0
@@ -34,16 +35,14 @@ PartsComeToTheSameFrom setting first operator before (other ∷ others) (a_part 
 PartsComeToTheSameFrom setting first operator before [] (a_part part rest) types = ⊥
 PartsComeToTheSameFrom setting first operator before (other ∷ others) no_parts types = ⊥
 
--- parts of an operator that are sound may be replaced by what comes to the same from then on
-abbrev pub SoundPartsMayBeReplaced : Type 0
-SoundPartsMayBeReplaced =
-    (schemas : SchemaSet) (known : List FunctionSignature) (calls : CallOutcomes) (operator : Operator) (parts : Parts SequenceType)
-    (others : List Denotation) (types : Types) (situation : Situation (calling_setting schemas known calls) types)
-    → PartsAreSound (calling_setting schemas known calls) operator [] parts types
-    → PartsComeToTheSameFrom (calling_setting schemas known calls) situation.forest operator [] others parts types
-    → denoted (context_of (calling_setting schemas known calls)) operator others situation.bindings situation.forest
-    ≡ denoted (context_of (calling_setting schemas known calls)) operator (meanings (context_of (calling_setting schemas known calls)) parts)
-    situation.bindings situation.forest
+-- parts of an operator that binds well may be replaced by what comes to the same from then on
+abbrev pub WellBoundPartsMayBeReplaced : Type 0
+WellBoundPartsMayBeReplaced =
+    (setting : Setting) (operator : Operator) (parts : Parts SequenceType) (others : List Denotation) (types : Types)
+    (situation : Situation setting types) → BindsWell setting operator parts types
+    → PartsComeToTheSameFrom setting situation.forest operator [] others parts types
+    → denoted (context_of setting) operator others situation.bindings situation.forest
+    ≡ denoted (context_of setting) operator (meanings (context_of setting) parts) situation.bindings situation.forest
 
 -- what a sound expression is compiled to comes to the same
 abbrev pub CompilingKeeps : Type 0

@@ -7,48 +7,11 @@ use Rattle.gx_core.specs.declared.expression.Query.{Query}
 use Rattle.gx_core.specs.declared.expression.Declaration.{Declaration}
 use Rattle.gx_core.specs.declared.expression.Declaration.TheVariants.{Global, Function}
 use Rattle.gx_core.specs.declared.expression.DeclaredFunction.{DeclaredFunction}
-use Rattle.gx_core.specs.declared.signature.FunctionSignature.{FunctionSignature}
 use Rattle.gx_core.specs.Queries.{TypedCore, TypedDeclaration, TypedFunction}
-use Rattle.gx_core.specs.CalledFunctions.{AllCalls}
-use Rattle.gx_core.specs.Expression.{Expression}
 use Rattle.gx_core.specs.Bindings.{Types}
-use Rattle.gx_core.specs.Meaning.{CallOutcomes, meaning}
-use Rattle.gx_core.specs.QueryMeaning.{plain_query, outcome_within, global_types, types_declared, parameter_types, IsSoundQuery, DocumentsFit}
-use Rattle.gx_core.specs.Soundness.{TypedExpression, calling_setting, IsSoundWithCalls}
-use Rattle.gx_plan.specs.SameMeaning.{ComesToTheSame}
-use Rattle.gx_plan.specs.StandingFor.{types_named, CallsTakeTheirArguments}
-
--- ---- queries that are sound throughout
-
--- the types of those variables that the body of a function names, where globals of these types are declared before it
-abbrev pub body_types : TypedFunction → (before : Types) → Types
-body_types function before = types_named function.body (parameter_types function.parameters ++ before)
-
--- beside soundness: each call takes its arguments, and the body of a function is sound already where those variables alone that it names
--- have types
-abbrev pub DeclarationsAreSoundThroughout : SchemaSet → List TypedDeclaration → Types → Type 0
-DeclarationsAreSoundThroughout schemas [] types = Unit {0}
-DeclarationsAreSoundThroughout schemas (Global name binder (Some value) ∷ others) types =
-    CallsTakeTheirArguments schemas value
-    × DeclarationsAreSoundThroughout schemas others (global_types (Global name binder (Some value)) ++ types)
-DeclarationsAreSoundThroughout schemas (Global name binder None ∷ others) types =
-    DeclarationsAreSoundThroughout schemas others (global_types (Global name binder None) ++ types)
-DeclarationsAreSoundThroughout schemas (Function function ∷ others) types =
-    CallsTakeTheirArguments schemas function.body × IsSoundWithCalls schemas function.body (body_types function types)
-    × DeclarationsAreSoundThroughout schemas others types
-
-pub record IsSoundThroughout (schemas : SchemaSet) (query : TypedCore) : Type 0 where
-  pub sound : IsSoundQuery schemas query
-  pub declarations : DeclarationsAreSoundThroughout schemas query.declarations []
-  pub body : CallsTakeTheirArguments schemas query.body
-
--- ---- queries that come to the same
-
--- an expression comes to the same as another in each situation of these types, whatever functions the other may call
-abbrev pub IsSameExpression : {A : Type 0} → SchemaSet → (other : Expression A) → TypedExpression → Types → Type 0
-IsSameExpression schemas other e types =
-    (known : List FunctionSignature) (calls : CallOutcomes) → AllCalls known e
-    → ComesToTheSame (calling_setting schemas known calls) (meaning (record { schemas = schemas; calls = calls }) other) e types
+use Rattle.gx_core.specs.QueryMeaning.{plain_query, outcome_within, global_types, types_declared, DocumentsFit}
+use Rattle.gx_plan.specs.FullSoundness.{Binders, body_types, IsFullySoundQuery}
+use Rattle.gx_plan.specs.StandingFor.{IsSameExpression}
 
 -- a function with the same parameters and the same result whose body comes to the same, where those variables alone that the body of the
 -- other names have types
@@ -76,10 +39,10 @@ pub record IsSameQuery {A : Type 0} (schemas : SchemaSet) (other : Query A) (que
   pub declarations : AreSameDeclarations schemas other.declarations query.declarations []
   pub body : IsSameExpression schemas other.body query.body (types_declared query.declarations [])
 
--- a query whose expressions come to the same as those of a query that is sound throughout has its outcome, however many calls may be active
+-- a query whose expressions come to the same as those of a fully sound query has its outcome, however many calls may be active
 abbrev pub SameQueriesHaveTheOutcome : (A : Type 0) → Type 0
 SameQueriesHaveTheOutcome A =
-    (limit : ℕ) (schemas : SchemaSet) (query : TypedCore) (other : Query A) (documents : List PlainNode) (forest : Forest)
-    → IsHonest schemas forest → DocumentsFit schemas forest (plain_query query).declarations documents → IsSoundThroughout schemas query
-    → IsSameQuery schemas other query
+    (limit : ℕ) (schemas : SchemaSet) (binders : Binders) (query : TypedCore) (other : Query A) (documents : List PlainNode) (forest : Forest)
+    → IsHonest schemas forest → DocumentsFit schemas forest (plain_query query).declarations documents
+    → IsFullySoundQuery schemas binders query → IsSameQuery schemas other query
     → outcome_within limit schemas other documents forest ≡ outcome_within limit schemas query documents forest

@@ -1,12 +1,12 @@
 // Laws of plans.
 
-ghost use Rattle.gx_plan.specs.Fitting.{EvaluationsFit};
-ghost use Rattle.gx_plan.specs.SameMeaning.{SoundPartsMayBeReplaced, CompilingKeeps};
-ghost use Rattle.gx_plan.specs.StandingFor.{SameExpressionsMayStandFor, StandInsHaveTheOutcome};
-ghost use Rattle.gx_plan.specs.SameQueries.{SameQueriesHaveTheOutcome};
 ghost use Rattle.gx_plan.specs.declared.plan.Carried.{Carried};
 ghost use Rattle.gx_plan.specs.Compiling.{CompilingKeepsOutcomes};
+ghost use Rattle.gx_plan.specs.Fitting.{EvaluationsFit, SoundExpressionsAreWellBound};
+ghost use Rattle.gx_plan.specs.SameMeaning.{WellBoundPartsMayBeReplaced, CompilingKeeps};
 ghost use Rattle.gx_plan.specs.TypeErrors.{OperatorsAreSameUnlessWrong};
+ghost use Rattle.gx_plan.specs.StandingFor.{SameExpressionsMayStandFor, PartsOfSoundQueriesKeepTheirTypes, StandInsHaveTheOutcome};
+ghost use Rattle.gx_plan.specs.SameQueries.{SameQueriesHaveTheOutcome};
 
 /// Where the parts of an operator keep their types, it evaluates each part under bindings that fit the types of the variables that it
 /// binds for the part, in an honest forest that has grown.
@@ -14,9 +14,14 @@ pub fn evaluations_fit()
     ensures { EvaluationsFit }
 {}
 
-/// Parts of an operator that are sound may be replaced by what comes to the same wherever they are evaluated.
-pub fn sound_parts_may_be_replaced()
-    ensures { SoundPartsMayBeReplaced }
+/// What the operators of a sound expression bind belongs to the types that the static rules give their variables.
+pub fn sound_expressions_are_well_bound()
+    ensures { SoundExpressionsAreWellBound }
+{}
+
+/// Parts of an operator that binds well may be replaced by what comes to the same wherever they are evaluated.
+pub fn well_bound_parts_may_be_replaced()
+    ensures { WellBoundPartsMayBeReplaced }
 {}
 
 /// What a sound expression is compiled to comes to the same as the expression.
@@ -34,18 +39,22 @@ pub fn compiling_keeps_outcomes()
     ensures { CompilingKeepsOutcomes }
 {}
 
-/// What comes to the same as a sound expression whose calls take their arguments may stand for it.
+/// What comes to the same as a fully sound expression may stand for it, also where the functions that they call are stood for.
 pub fn same_expressions_may_stand_for()
     ensures { SameExpressionsMayStandFor Carried }
 {}
 
-/// A query that may stand for a sound one has its outcome, however many calls may be active.
+/// The values of the globals, of the bodies of functions and of the body of a sound query keep their types.
+pub fn parts_of_sound_queries_keep_their_types()
+    ensures { PartsOfSoundQueriesKeepTheirTypes }
+{}
+
+/// A query that may stand for another, whose values keep their types, has its outcome, however many calls may be active.
 pub fn stand_ins_have_the_outcome()
     ensures { StandInsHaveTheOutcome Carried }
 {}
 
-/// A query whose expressions come to the same as those of a query that is sound throughout has its outcome, however many calls may be
-/// active.
+/// A query whose expressions come to the same as those of a fully sound query has its outcome, however many calls may be active.
 pub fn same_queries_have_the_outcome()
     ensures { SameQueriesHaveTheOutcome Carried }
 {}
