@@ -10,3 +10,5 @@ pub mod CompiledQueries
 pub mod AgreeingCalls
 pub mod StandIns
 pub mod SameOutcomes
+pub mod TypedPlans
+pub mod SameCompiled

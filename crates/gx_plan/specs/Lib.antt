@@ -6,3 +6,5 @@ pub mod TypeErrors
 pub mod FullSoundness
 pub mod StandingFor
 pub mod SameQueries
+pub mod PlanMeaning
+pub mod CompiledQueries

@@ -2,6 +2,8 @@
 
 ghost use Rattle.gx_plan.specs.declared.plan.Carried.{Carried};
 ghost use Rattle.gx_plan.specs.Compiling.{CompilingKeepsOutcomes};
+ghost use Rattle.gx_plan.specs.CompiledQueries.{CompiledQueriesAreSame};
+ghost use Rattle.gx_plan.specs.PlanMeaning.{PlansMeanTheirTypedCore, PlansHaveTheOutcomeOfTheirTypedCore};
 ghost use Rattle.gx_plan.specs.Fitting.{EvaluationsFit, SoundExpressionsAreWellBound};
 ghost use Rattle.gx_plan.specs.SameMeaning.{WellBoundPartsMayBeReplaced, CompilingKeeps};
 ghost use Rattle.gx_plan.specs.TypeErrors.{OperatorsAreSameUnlessWrong};
@@ -57,4 +59,19 @@ pub fn stand_ins_have_the_outcome()
 /// A query whose expressions come to the same as those of a fully sound query has its outcome, however many calls may be active.
 pub fn same_queries_have_the_outcome()
     ensures { SameQueriesHaveTheOutcome Carried }
+{}
+
+/// The expressions of a compiled query come to the same as those of the query that it is made of, where that is fully sound.
+pub fn compiled_queries_are_same()
+    ensures { CompiledQueriesAreSame }
+{}
+
+/// An expression of a plan comes to the same as the typed Core that it means: its marks change nothing.
+pub fn plans_mean_their_typed_core()
+    ensures { PlansMeanTheirTypedCore }
+{}
+
+/// A plan has the outcome of the typed Core that it means, however many calls may be active.
+pub fn plans_have_the_outcome_of_their_typed_core()
+    ensures { PlansHaveTheOutcomeOfTheirTypedCore }
 {}
