@@ -2,3 +2,17 @@ pub mod Remade
 pub mod Compiled
 pub mod WalkLemmas
 pub mod VariableLemmas
+pub mod FittingBindings
+pub mod GivenFacts
+pub mod PartsBefore
+pub mod FittingParts
+pub mod FittingBlocks
+pub mod FittingEvaluations
+pub mod ReplacingParts
+pub mod UnlessWrong
+pub mod CompiledQueries
+pub mod AgreeingCalls
+pub mod StandIns
+pub mod SameOutcomes
+pub mod TypedPlans
+pub mod SameCompiled

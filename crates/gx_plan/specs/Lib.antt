@@ -4,3 +4,11 @@ pub mod Operands
 pub mod Remaking
 pub mod Variables
 pub mod Walk
+pub mod Fitting
+pub mod SameMeaning
+pub mod TypeErrors
+pub mod FullSoundness
+pub mod StandingFor
+pub mod SameQueries
+pub mod PlanMeaning
+pub mod CompiledQueries

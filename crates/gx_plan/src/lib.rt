@@ -3,6 +3,7 @@
 
 pub mod compile;
 pub mod operands;
+pub mod laws;
 pub mod plan;
 pub mod remake;
 pub mod variables;
