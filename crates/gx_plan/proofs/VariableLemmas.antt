@@ -13,7 +13,7 @@ use Rattle.gx_core.specs.Bindings.{Types, position_bound, block_types_bound}
 use Rattle.gx_core.specs.Expression.{Expression, At, Parts, no_parts, a_part, all_parts}
 use Rattle.gx_core.specs.ExpressionView.{kind_of_clause, part_of_clause, part_of_key, parts_of_block}
 use Rattle.gx_plan.specs.declared.plan.Carried.{Carried}
-use Rattle.gx_plan.specs.Plan.{PlanExpression, kinds_of}
+use Rattle.gx_plan.specs.Plan.{PlanExpression, kinds_carried}
 use Rattle.gx_plan.specs.Walk.{parts_in_order, parts_of_expression, IsNext}
 use Rattle.gx_plan.specs.Variables.{case_variables, with_variables_at, with_variables_in, with_variables_in_parts, with_variables_in_all, with_variables_of_clauses, with_variables_declared}
 
@@ -37,13 +37,13 @@ met_next (At place outer carried operator parts) before after types next =
     ∙ ap (λ es. with_variables_in_all es types) (sym next.met)
 
 clauses_of : (cs : List (Clause Carried)) (others : List PlanExpression) (before : Types)
-    → block_types_bound (map kind_of_clause cs) (kinds_of (all_parts (map part_of_clause cs ++ others))) before
+    → block_types_bound (map kind_of_clause cs) (kinds_carried (all_parts (map part_of_clause cs ++ others))) before
     ≡ with_variables_of_clauses cs before
 clauses_of [] others before = refl
 clauses_of (c ∷ cs) others before = clauses_of cs others _
 
 pub of_a_block : (cs : List (Clause Carried)) (ks : List (SortKey Carried)) (body : PlanExpression) (before : Types)
-    → block_types_bound (map kind_of_clause cs) (kinds_of (all_parts (parts_of_block cs ks body))) before ≡ with_variables_of_clauses cs before
+    → block_types_bound (map kind_of_clause cs) (kinds_carried (all_parts (parts_of_block cs ks body))) before ≡ with_variables_of_clauses cs before
 of_a_block cs ks body before = clauses_of cs (map part_of_key ks ++ body ∷ []) before
 
 -- the last of parameters and of cases is bound first

@@ -23,12 +23,12 @@ abbrev pub own : SequenceType → Carried
 own t = record { kind = t; role = Own }
 
 -- the type that an expression carries
-abbrev pub kind_of : PlanExpression → SequenceType
-kind_of e = (annotation_of e).kind
+abbrev pub kind_carried : PlanExpression → SequenceType
+kind_carried e = (annotation_of e).kind
 
-abbrev pub kinds_of : Parts Carried → List SequenceType
-kinds_of no_parts = []
-kinds_of (a_part first others) = kind_of first ∷ kinds_of others
+abbrev pub kinds_carried : Parts Carried → List SequenceType
+kinds_carried no_parts = []
+kinds_carried (a_part first others) = kind_carried first ∷ kinds_carried others
 
 -- ---- the typed Core that a plan means
 

@@ -14,7 +14,7 @@ use Rattle.gx_core.specs.ExpressionView.{kind_of_clause, part_of_clause}
 use Rattle.gx_core.specs.Expression.{Expression, At, Parts, no_parts, a_part}
 use Rattle.gx_core.specs.QueryMeaning.{external_types, parameter_types}
 use Rattle.gx_plan.specs.declared.plan.Carried.{Carried}
-use Rattle.gx_plan.specs.Plan.{PlanExpression, PlanQuery, kind_of, kinds_of}
+use Rattle.gx_plan.specs.Plan.{PlanExpression, PlanQuery, kind_carried, kinds_carried}
 
 -- the variables of cases, each with the type of its case
 abbrev pub case_variables : List TypeCase → Types → Types
@@ -32,7 +32,7 @@ with_variables_of operator [] before = before
 abbrev mutual
   pub with_variables_in : PlanExpression → Types → Types
   with_variables_in (At place outer carried operator parts) before =
-      with_variables_in_parts parts (with_variables_of operator (kinds_of parts) before)
+      with_variables_in_parts parts (with_variables_of operator (kinds_carried parts) before)
 
   pub with_variables_in_parts : Parts Carried → Types → Types
   with_variables_in_parts no_parts before = before
@@ -41,7 +41,7 @@ abbrev mutual
 abbrev pub with_variables_declared : List (Declaration Carried) → Types → Types
 with_variables_declared [] before = before
 with_variables_declared (Global name binder (Some value) ∷ others) before =
-    with_variables_declared others ((binder.variable, kind_of value) ∷ with_variables_in value before)
+    with_variables_declared others ((binder.variable, kind_carried value) ∷ with_variables_in value before)
 with_variables_declared (Global name binder None ∷ others) before = with_variables_declared others (external_types binder binder.kind ++ before)
 with_variables_declared (Function function ∷ others) before =
     with_variables_declared others (with_variables_in function.body (parameter_types function.parameters ++ before))
@@ -53,7 +53,7 @@ variables_of_query query = with_variables_in query.body (with_variables_declared
 -- ---- one operator, and expressions one behind the other
 
 abbrev pub with_variables_at : PlanExpression → Types → Types
-with_variables_at (At place outer carried operator parts) before = with_variables_of operator (kinds_of parts) before
+with_variables_at (At place outer carried operator parts) before = with_variables_of operator (kinds_carried parts) before
 
 abbrev pub with_variables_in_all : List PlanExpression → Types → Types
 with_variables_in_all [] before = before
@@ -63,4 +63,4 @@ with_variables_in_all (e ∷ es) before = with_variables_in_all es (with_variabl
 abbrev pub with_variables_of_clauses : List (Clause Carried) → Types → Types
 with_variables_of_clauses [] before = before
 with_variables_of_clauses (clause ∷ clauses) before =
-    with_variables_of_clauses clauses (clause_types_bound (kind_of_clause clause) (kind_of (part_of_clause clause)) ++ before)
+    with_variables_of_clauses clauses (clause_types_bound (kind_of_clause clause) (kind_carried (part_of_clause clause)) ++ before)

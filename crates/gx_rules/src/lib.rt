@@ -1,0 +1,4 @@
+//! The rules of rewriting: what they ask of an expression of a plan, and what they put in its place.
+#![tactic(auto)]
+
+pub mod flat;
