@@ -15,15 +15,19 @@ use gx_types::sequence_type::{Ty, TyNode};
 use gx_types::type_rules::{occurrence, times};
 use std::alloc::{AllocError, Global};
 
-// A family of values that compare with one another: numbers, strings and untyped values, or booleans.
+/// A family of values that compare with one another (XQuery 1.0, section 3.5.1).
 #[derive(Clone, Copy)]
-pub(crate) enum Family {
+pub enum Family {
+    /// Numbers.
     Number,
+    /// Strings and untyped values.
     Text,
+    /// Booleans.
     Truth,
 }
 
-pub(crate) fn is_of_family(schemas: &Schemas, family: Family, kind: &ItemType) -> bool
+/// Whether the items of an item type are of a family.
+pub fn is_of_family(schemas: &Schemas, family: Family, kind: &ItemType) -> bool
     ensures { result ≡ is_of_family schemas.now family kind.now }
 {
     match family {
@@ -36,8 +40,8 @@ pub(crate) fn is_of_family(schemas: &Schemas, family: Family, kind: &ItemType) -
     }
 }
 
-// Whether all items of a type are of a family.
-pub(crate) fn is_all_of_family(schemas: &Schemas, family: Family, t: &Ty) -> bool
+/// Whether all items of a type are of a family.
+pub fn is_all_of_family(schemas: &Schemas, family: Family, t: &Ty) -> bool
     ensures { result ≡ all_items (is_of_family schemas.now family) t.now }
 {
     match &t.node {

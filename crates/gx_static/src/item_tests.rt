@@ -23,22 +23,22 @@ pub(crate) fn no_type(code: Code) -> RuleError
     RuleError::NoType { code, part: None }
 }
 
-// The type of an atomic value of a built-in type.
-pub(crate) fn atomic(alloc: Global, builtin: Builtin) -> Result<Ty, AllocError>
+/// The type of an atomic value of a built-in type.
+pub fn atomic(alloc: Global, builtin: Builtin) -> Result<Ty, AllocError>
     ensures { IfOk result (λ t. t ≡ atomic builtin) }
 {
     Ty::of_item(alloc, ItemType::Atom(TypeName::Builtin(builtin)))
 }
 
-// Whether the values of a type have at most one item.
-pub(crate) fn is_at_most_one(t: &Ty) -> bool
+/// Whether the values of a type have at most one item.
+pub fn is_at_most_one(t: &Ty) -> bool
     ensures { result ≡ is_at_most_one t.now }
 {
     occurrence(t).greatest <= 1
 }
 
-// Whether the values of a type have at least one item.
-pub(crate) fn is_at_least_one(t: &Ty) -> bool
+/// Whether the values of a type have at least one item.
+pub fn is_at_least_one(t: &Ty) -> bool
     ensures { result ≡ is_at_least_one t.now }
 {
     1 <= occurrence(t).least
@@ -51,8 +51,8 @@ pub(crate) fn is_optional_in(schemas: &Schemas, builtin: Builtin, t: &Ty) -> boo
     is_at_most_one(t) && is_all_in(schemas, builtin, t)
 }
 
-// Whether all items of a type are atomic values of a built-in type.
-pub(crate) fn is_all_in(schemas: &Schemas, builtin: Builtin, t: &Ty) -> bool
+/// Whether all items of a type are atomic values of a built-in type.
+pub fn is_all_in(schemas: &Schemas, builtin: Builtin, t: &Ty) -> bool
     ensures { result ≡ is_all_in schemas.now builtin t.now }
 {
     match &t.node {
