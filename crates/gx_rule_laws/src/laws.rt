@@ -1,9 +1,19 @@
 // Laws of the rules of rewriting: each keeps what an expression comes to.
 
 ghost use Rattle.gx_rule_laws.specs.KeepingRules.{RuleKeeps};
-ghost use Rattle.gx_rules.specs.Rules.{Joins};
+ghost use Rattle.gx_rules.specs.Rules.{Joins, One, Sorted};
 
 /// Two loops over a comparison of keys come to the same where they are marked as a join: a mark has no meaning.
 pub fn joins_keep()
     ensures { RuleKeeps Joins }
+{}
+
+/// At most one item is in document order (XQuery 1.0, section 3.2).
+pub fn one_keeps()
+    ensures { RuleKeeps One }
+{}
+
+/// What is in document order stays so (XQuery 1.0, section 3.2).
+pub fn sorted_keeps()
+    ensures { RuleKeeps Sorted }
 {}
