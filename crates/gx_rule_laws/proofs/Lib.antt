@@ -5,3 +5,5 @@ pub mod InOrder
 pub mod SoundParts
 pub mod Ones
 pub mod SortedOperands
+pub mod Descending
+pub mod SlashedPaths

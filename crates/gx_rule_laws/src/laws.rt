@@ -1,7 +1,7 @@
 // Laws of the rules of rewriting: each keeps what an expression comes to.
 
 ghost use Rattle.gx_rule_laws.specs.KeepingRules.{RuleKeeps};
-ghost use Rattle.gx_rules.specs.Rules.{Joins, One, Sorted};
+ghost use Rattle.gx_rules.specs.Rules.{Joins, One, Sorted, Slashes};
 
 /// Two loops over a comparison of keys come to the same where they are marked as a join: a mark has no meaning.
 pub fn joins_keep()
@@ -16,4 +16,9 @@ pub fn one_keeps()
 /// What is in document order stays so (XQuery 1.0, section 3.2).
 pub fn sorted_keeps()
     ensures { RuleKeeps Sorted }
+{}
+
+/// In document order, the children of nodes and of all their descendants are the descendants of the nodes (XQuery 1.0, section 3.2).
+pub fn slashes_keep()
+    ensures { RuleKeeps Slashes }
 {}
