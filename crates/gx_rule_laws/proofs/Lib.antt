@@ -7,3 +7,6 @@ pub mod Ones
 pub mod SortedOperands
 pub mod Descending
 pub mod SlashedPaths
+pub mod Renaming
+pub mod SingleItems
+pub mod DecidedCases

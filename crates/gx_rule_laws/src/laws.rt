@@ -1,7 +1,7 @@
 // Laws of the rules of rewriting: each keeps what an expression comes to.
 
 ghost use Rattle.gx_rule_laws.specs.KeepingRules.{RuleKeeps};
-ghost use Rattle.gx_rules.specs.Rules.{Joins, One, Sorted, Slashes};
+ghost use Rattle.gx_rules.specs.Rules.{Joins, One, Sorted, Slashes, Single, Decided};
 
 /// Two loops over a comparison of keys come to the same where they are marked as a join: a mark has no meaning.
 pub fn joins_keep()
@@ -21,4 +21,15 @@ pub fn sorted_keeps()
 /// In document order, the children of nodes and of all their descendants are the descendants of the nodes (XQuery 1.0, section 3.2).
 pub fn slashes_keep()
     ensures { RuleKeeps Slashes }
+{}
+
+/// A loop over one item is a `let` of that item, whose position is 1 (XQuery 1.0, section 3.8.1).
+pub fn single_keeps()
+    ensures { RuleKeeps Single }
+{}
+
+/// A switch goes on with its first case where each value of the operand is of the type of the case, and without a case with the default
+/// (XQuery 1.0, section 3.12.2).
+pub fn decided_keeps()
+    ensures { RuleKeeps Decided }
 {}
