@@ -10,3 +10,4 @@ pub mod SlashedPaths
 pub mod Renaming
 pub mod SingleItems
 pub mod DecidedCases
+pub mod IdleOperators

@@ -1,6 +1,6 @@
 // Laws of the rules of rewriting: each keeps what an expression comes to.
 
-ghost use Rattle.gx_rule_laws.specs.KeepingRules.{RuleKeeps};
+ghost use Rattle.gx_rule_laws.specs.KeepingRules.{RuleKeeps, IdleKeeps};
 ghost use Rattle.gx_rules.specs.Rules.{Joins, One, Sorted, Slashes, Single, Decided};
 
 /// Two loops over a comparison of keys come to the same where they are marked as a join: a mark has no meaning.
@@ -32,4 +32,10 @@ pub fn single_keeps()
 /// (XQuery 1.0, section 3.12.2).
 pub fn decided_keeps()
     ensures { RuleKeeps Decided }
+{}
+
+/// A boolean is its own effective boolean value (XQuery 1.0, section 2.4.3), where no type derives from xs:boolean, and atomic values are
+/// their own typed values (section 2.4.2).
+pub fn idle_keeps()
+    ensures { IdleKeeps }
 {}
