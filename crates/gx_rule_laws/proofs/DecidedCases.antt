@@ -1,6 +1,5 @@
 -- A switch that is decided is a `let`.
-use Rattle.std.proofs.Common.{◌≡◌, ℕ, Bool, true, false, List, [], ◌∷◌, ◌++◌, Some, refl, sym, ◌∙◌, ap, subst, if◌then◌else◌}
-use Rattle.gx_base.specs.declared.place.Place.{Place}
+use Rattle.std.proofs.Common.{◌≡◌, ℕ, Bool, true, List, [], ◌∷◌, ◌++◌, refl, sym, ◌∙◌, ap, if◌then◌else◌}
 use Rattle.gx_types.specs.SchemaSet.{SchemaSet}
 use Rattle.gx_types.specs.SchemaInvariant.{IsSchemaSet}
 use Rattle.gx_types.specs.SequenceType.{SequenceType}
@@ -12,17 +11,16 @@ use Rattle.gx_model.specs.Item.{Items}
 use Rattle.gx_core.specs.declared.cases.TypeCase.{TypeCase}
 use Rattle.gx_core.specs.declared.operator.Operator.TheVariants as operators
 use Rattle.gx_core.specs.Bindings.{position_bound}
-use Rattle.gx_core.specs.Expression.{At, Parts, no_parts, a_part, each_of, annotation_of}
+use Rattle.gx_core.specs.Expression.{At, no_parts, a_part, each_of, annotation_of}
 use Rattle.gx_core.specs.Instances.{is_instance, IsWrittenType}
 use Rattle.gx_core.specs.Outcome.{Outcome, gives, raises, wrong, after}
 use Rattle.gx_core.specs.Meaning.{Context, Bindings, Denotation, switched, meaning, meanings}
 use Rattle.gx_core.specs.Soundness.{Setting, context_of, Keeps}
 use Rattle.gx_core.proofs.InstanceLemmas.{instances_are_exact}
 use Rattle.gx_static.proofs.HonestValues.{included_belongs}
-use Rattle.gx_plan.specs.declared.plan.Carried.{Carried}
 use Rattle.gx_plan.specs.Plan.{PlanExpression, kind_carried, typed_expression, typed_parts}
-use Rattle.gx_rules.specs.Rules.{made_let, binder_of, decided, Decided}
-use Rattle.gx_rule_laws.specs.KeepingRules.{StandsWell, IsRegular, RuleKeeps}
+use Rattle.gx_rules.specs.Rules.{made_let, binder_of, Decided}
+use Rattle.gx_rule_laws.specs.KeepingRules.{IsRegular, RuleKeeps}
 use Rattle.gx_rule_laws.proofs.GuardLemmas.{met}
 use Rattle.gx_rule_laws.proofs.Renaming.{none_may_be_bound}
 use Rattle.gx_rule_laws.proofs.SoundParts.{kind_of, first_keeps}

@@ -1,7 +1,6 @@
 -- Children of nodes and of all that is below them are descendants, whether a `for` or a `let` goes over the nodes.
-use Rattle.std.proofs.Common.{◌≡◌, ℕ, zero, suc, Bool, true, false, ◌&&◌, [], ◌∷◌, Option, None, Some, nat_eq, refl, sym, ◌∙◌, ap, subst, eq-eqb, if◌then◌else◌}
+use Rattle.std.proofs.Common.{◌≡◌, ℕ, zero, Bool, true, ◌&&◌, [], ◌∷◌, Option, None, Some, refl, sym, ◌∙◌, ap, subst, eq-eqb, if◌then◌else◌}
 use Rattle.std.proofs.lemmas.Bool.{eqb-true, and_parts}
-use Rattle.gx_base.specs.declared.code.Code.{Code}
 use Rattle.gx_base.specs.declared.place.Place.{Place}
 use Rattle.gx_types.specs.declared.step.Axis.{Axis}
 use Rattle.gx_types.specs.declared.step.Axis.TheVariants as axes
@@ -13,20 +12,17 @@ use Rattle.gx_model.specs.Item.{Item, Items, atom, node}
 use Rattle.gx_core.specs.declared.expression.Binder.{Binder}
 use Rattle.gx_core.specs.declared.operator.Operator.{Operator}
 use Rattle.gx_core.specs.declared.operator.Operator.TheVariants as operators
-use Rattle.gx_core.specs.Bindings.{look_up, Types}
+use Rattle.gx_core.specs.Bindings.{look_up}
 use Rattle.gx_core.specs.Expression.{At, no_parts, a_part, one_part}
 use Rattle.gx_core.specs.Outcome.{Outcome, gives, raises, wrong, after, given}
 use Rattle.gx_core.specs.Paths.{stepped, put_in_order}
-use Rattle.gx_core.specs.Meaning.{Context, Bindings, Denotation, for_each, denoted, meaning}
+use Rattle.gx_core.specs.Meaning.{Context, Bindings, Denotation, denoted, meaning}
 use Rattle.gx_core.specs.PathLaws.{stepped_from_each, loop_of_steps, ordered}
-use Rattle.gx_core.specs.Soundness.{Setting, context_of}
 use Rattle.gx_core.proofs.StepLoops.{loops_of_steps, slashes_are_descendants}
-use Rattle.gx_plan.specs.declared.plan.Carried.{Carried}
 use Rattle.gx_plan.specs.Plan.{PlanExpression, typed_expression}
 use Rattle.gx_rules.specs.Guards.{is_own_role}
-use Rattle.gx_rules.specs.Rules.{RuleSetting, made, binds_alone, is_step_to_all_below, with_descendants, descending_from, descending, without_order, in_order, slashes_over, slashes, Slashes}
-use Rattle.gx_rule_laws.specs.KeepingRules.{RuleKeeps, rule_setting_of}
-use Rattle.gx_rule_laws.proofs.GuardLemmas.{met, given_if}
+use Rattle.gx_rules.specs.Rules.{RuleSetting, made, binds_alone, is_step_to_all_below, with_descendants, descending_from, descending, without_order, in_order}
+use Rattle.gx_rule_laws.proofs.GuardLemmas.{met}
 use Rattle.gx_rule_laws.proofs.Outcomes.{order_is, after_gives}
 
 -- ---- a `let` over a step from the variable

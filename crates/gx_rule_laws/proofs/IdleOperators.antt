@@ -1,6 +1,5 @@
 -- Operators that change nothing.
-use Rattle.std.proofs.Common.{◌≡◌, Bool, true, false, List, [], ◌∷◌, ◌++◌, Option, Some, refl, sym, ◌∙◌, ap, subst}
-use Rattle.std.specs.Option.{option_map}
+use Rattle.std.proofs.Common.{◌≡◌, Bool, true, List, [], ◌∷◌, Option, Some, refl, sym, ◌∙◌, ap, subst}
 use Rattle.gx_base.specs.declared.type_name.Builtin.TheVariants as builtins
 use Rattle.gx_base.specs.declared.type_name.TypeName.{TypeName}
 use Rattle.gx_base.specs.declared.type_name.TypeName.TheVariants as names
@@ -28,14 +27,14 @@ use Rattle.gx_core.specs.declared.operator.Operator.TheVariants as operators
 use Rattle.gx_core.specs.Calling.{called}
 use Rattle.gx_core.specs.Expression.{At, no_parts, a_part, annotation_of}
 use Rattle.gx_core.specs.Outcome.{Outcome, gives, raises, wrong, after, given}
-use Rattle.gx_core.specs.Meaning.{Context, Bindings, Denotation, acts, all_of, denoted, meaning}
+use Rattle.gx_core.specs.Meaning.{Context, acts, meaning}
 use Rattle.gx_core.specs.Soundness.{Setting, context_of, Keeps}
 use Rattle.gx_static.specs.Rule.{atomic}
 use Rattle.gx_static.proofs.Conditionals.{value_is_boolean}
 use Rattle.gx_static.proofs.HonestValues.{included_belongs}
 use Rattle.gx_static.proofs.ItemLemmas.{EachItem, IsAtom, items_are_atoms}
 use Rattle.gx_plan.specs.Plan.{PlanExpression, kind_carried, typed_expression}
-use Rattle.gx_rules.specs.Rules.{any_atomic_values, Idle}
+use Rattle.gx_rules.specs.Rules.{any_atomic_values}
 use Rattle.gx_rule_laws.specs.KeepingRules.{HasOneBoolean, IdleKeeps}
 use Rattle.gx_rule_laws.proofs.GuardLemmas.{met}
 use Rattle.gx_rule_laws.proofs.SoundParts.{kind_of, first_keeps}

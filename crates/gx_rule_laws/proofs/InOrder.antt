@@ -4,16 +4,14 @@ use Rattle.std.specs.List.{list_all, list_any}
 use Rattle.std.specs.Option.{option_map}
 use Rattle.gx_types.specs.declared.shape.Shape.{Shape}
 use Rattle.gx_types.specs.SchemaSet.{SchemaSet}
-use Rattle.gx_types.specs.SequenceType.{SequenceType}
 use Rattle.gx_tree.specs.PlainTree.{PlainTree}
 use Rattle.gx_model.specs.Belongs.{shape_of, HaveShapes}
 use Rattle.gx_model.specs.DocumentOrder.{comes_before, nodes_from, in_document_order}
 use Rattle.gx_model.specs.Forest.{Forest, PlainNode, node_in}
 use Rattle.gx_model.specs.Item.{Items, atom, node}
 use Rattle.gx_model.specs.OrderLaws.{Ascends, Every}
-use Rattle.gx_model.proofs.ListedNodes.{nodes_ascend}
 use Rattle.gx_model.proofs.Ordering.{is_in, in_filtered, same_nodes, ordered_ascend, kept_in_order}
-use Rattle.gx_core.specs.Outcome.{Outcome, gives, wrong}
+use Rattle.gx_core.specs.Outcome.{gives, wrong}
 use Rattle.gx_core.specs.Paths.{is_node, places_of, put_in_order}
 use Rattle.gx_core.proofs.StepLoops.{order_of_nodes}
 use Rattle.gx_rule_laws.proofs.Outcomes.{StaysInOrder}

@@ -11,3 +11,6 @@ pub mod Renaming
 pub mod SingleItems
 pub mod DecidedCases
 pub mod IdleOperators
+pub mod NearSteps
+pub mod FlatValues
+pub mod FlatOperands

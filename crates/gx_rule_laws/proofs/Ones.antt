@@ -1,18 +1,17 @@
 -- At most one item is in document order.
-use Rattle.std.proofs.Common.{◌≡◌, true, [], ◌∷◌, ◌++◌, Some, refl, sym, ◌∙◌, ap, subst}
+use Rattle.std.proofs.Common.{◌≡◌, true, [], ◌∷◌, refl, sym, ◌∙◌, ap}
 use Rattle.gx_types.specs.SequenceType.{SequenceType}
 use Rattle.gx_model.specs.Forest.{Forest}
 use Rattle.gx_model.specs.Item.{Items}
 use Rattle.gx_core.specs.declared.operator.Operator.TheVariants as operators
-use Rattle.gx_core.specs.Bindings.{Types}
 use Rattle.gx_core.specs.Expression.{At, no_parts, a_part, annotation_of}
 use Rattle.gx_core.specs.Outcome.{Outcome, gives, raises, wrong}
-use Rattle.gx_core.specs.Meaning.{Bindings, meaning}
+use Rattle.gx_core.specs.Meaning.{meaning}
 use Rattle.gx_core.specs.Soundness.{Setting, context_of, Keeps}
 use Rattle.gx_static.specs.Rule.{is_at_most_one}
 use Rattle.gx_plan.specs.Plan.{PlanExpression, kind_carried, typed_expression}
-use Rattle.gx_rules.specs.Rules.{one, One}
-use Rattle.gx_rule_laws.specs.KeepingRules.{StandsWell, RuleKeeps, rule_setting_of}
+use Rattle.gx_rules.specs.Rules.{One}
+use Rattle.gx_rule_laws.specs.KeepingRules.{RuleKeeps}
 use Rattle.gx_rule_laws.proofs.GuardLemmas.{met}
 use Rattle.gx_rule_laws.proofs.Outcomes.{StaysInOrder, order_is}
 use Rattle.gx_rule_laws.proofs.InOrder.{few_items_stay}

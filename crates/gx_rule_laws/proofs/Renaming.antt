@@ -1,5 +1,5 @@
 -- An expression comes to the same under bindings that agree on what it names.
-use Rattle.std.proofs.Common.{◌≡◌, ◌≢◌, ℕ, zero, suc, Bool, true, false, not, ◌&&◌, ◌||◌, List, [], ◌∷◌, ◌++◌, Option, None, Some, nat_eq, refl, sym, ◌∙◌, ap, subst, if◌then◌else◌}
+use Rattle.std.proofs.Common.{◌≡◌, ◌≢◌, ℕ, zero, suc, Bool, true, false, not, ◌&&◌, ◌||◌, List, [], ◌∷◌, ◌++◌, Some, nat_eq, refl, sym, ◌∙◌, ap, if◌then◌else◌}
 use Rattle.std.proofs.lemmas.Bool.{eqb-true, true≢false}
 use Rattle.gx_model.specs.Forest.{Forest}
 use Rattle.gx_model.specs.Item.{Items}
@@ -7,7 +7,7 @@ use Rattle.gx_model.proofs.LocationLemmas.{nat_differs}
 use Rattle.gx_core.specs.declared.operator.Operator.{Operator}
 use Rattle.gx_core.specs.declared.operator.Operator.TheVariants as operators
 use Rattle.gx_core.specs.Bindings.{look_up, position_bound, numbers_bound_by}
-use Rattle.gx_core.specs.Expression.{Expression, At, Parts, no_parts, a_part, plain, plain_parts}
+use Rattle.gx_core.specs.Expression.{At, Parts, no_parts, a_part, plain, plain_parts}
 use Rattle.gx_core.specs.FreeVariables.{names_variable, is_free_in, is_free_in_parts}
 use Rattle.gx_core.specs.Invariant.{is_among}
 use Rattle.gx_core.specs.Meaning.{Context, Bindings, meaning}

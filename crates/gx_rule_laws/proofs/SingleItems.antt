@@ -1,9 +1,7 @@
 -- A loop over one item is a `let`.
-use Rattle.std.proofs.Common.{◌≡◌, ◌≢◌, ◌≤◌, ◌<◌, ℕ, zero, suc, pos, Bool, true, false, ◌&&◌, nat_eq, List, [], ◌∷◌, ◌++◌, length, Some, refl, sym, ◌∙◌, ap, subst, arith}
+use Rattle.std.proofs.Common.{◌≡◌, ◌≢◌, ◌≤◌, ℕ, zero, suc, pos, true, ◌&&◌, nat_eq, [], ◌∷◌, ◌++◌, length, refl, sym, ◌∙◌, ap, subst, arith}
 use Rattle.std.proofs.lemmas.Bool.{eqb-true, and_parts}
-use Rattle.gx_base.specs.declared.code.Code.{Code}
 use Rattle.gx_base.specs.declared.place.Place.{Place}
-use Rattle.gx_types.specs.Laws.{Allows}
 use Rattle.gx_types.specs.Occurrence.{occurrence_of}
 use Rattle.gx_types.specs.SchemaSet.{SchemaSet}
 use Rattle.gx_types.specs.SequenceType.{SequenceType}
@@ -13,16 +11,15 @@ use Rattle.gx_model.specs.Forest.{Forest}
 use Rattle.gx_model.specs.Item.{Item, atom, Items}
 use Rattle.gx_core.specs.declared.expression.Binder.{Binder}
 use Rattle.gx_core.specs.declared.operator.Operator.TheVariants as operators
-use Rattle.gx_core.specs.Bindings.{Types}
 use Rattle.gx_core.specs.Expression.{At, no_parts, a_part, annotation_of}
 use Rattle.gx_core.specs.Outcome.{Outcome, gives, raises, wrong, after}
-use Rattle.gx_core.specs.Meaning.{Context, Bindings, Denotation, for_each, item_bound, denoted, meaning}
+use Rattle.gx_core.specs.Meaning.{Context, Bindings, for_each, item_bound, meaning}
 use Rattle.gx_core.specs.Soundness.{Setting, context_of, Keeps}
 use Rattle.gx_static.proofs.ItemLemmas.{belongs_within}
 use Rattle.gx_plan.specs.Plan.{PlanExpression, kind_carried, typed_expression}
 use Rattle.gx_rules.specs.Guards.{is_own_role}
-use Rattle.gx_rules.specs.Rules.{occurs_once, with_position, made_let, single, Single}
-use Rattle.gx_rule_laws.specs.KeepingRules.{StandsWell, RuleKeeps}
+use Rattle.gx_rules.specs.Rules.{occurs_once, with_position, made_let, Single}
+use Rattle.gx_rule_laws.specs.KeepingRules.{RuleKeeps}
 use Rattle.gx_rule_laws.proofs.GuardLemmas.{met}
 use Rattle.gx_rule_laws.proofs.Outcomes.{after_gives}
 use Rattle.gx_rule_laws.proofs.Renaming.{may_be_swapped}

@@ -1,5 +1,5 @@
 -- A child step from all below is a step to the descendants.
-use Rattle.std.proofs.Common.{◌≡◌, ℕ, zero, suc, Bool, true, false, [], ◌∷◌, Option, None, Some, nat_eq, refl, sym, ◌∙◌, ap, if◌then◌else◌}
+use Rattle.std.proofs.Common.{◌≡◌, ℕ, zero, [], ◌∷◌, Some, nat_eq, sym, ◌∙◌, ap}
 use Rattle.std.proofs.lemmas.Bool.{eqb-true}
 use Rattle.gx_base.specs.declared.place.Place.{Place}
 use Rattle.gx_types.specs.declared.step.Axis.TheVariants as axes
@@ -7,12 +7,12 @@ use Rattle.gx_model.specs.Forest.{Forest}
 use Rattle.gx_core.specs.declared.expression.Binder.{Binder}
 use Rattle.gx_core.specs.declared.operator.Operator.TheVariants as operators
 use Rattle.gx_core.specs.Expression.{At, no_parts, a_part}
-use Rattle.gx_core.specs.Meaning.{Context, Bindings, Denotation, denoted, meaning}
+use Rattle.gx_core.specs.Meaning.{Context, Bindings, Denotation, denoted}
 use Rattle.gx_core.specs.PathLaws.{ordered}
 use Rattle.gx_core.specs.Soundness.{context_of}
-use Rattle.gx_plan.specs.Plan.{PlanExpression, typed_expression}
+use Rattle.gx_plan.specs.Plan.{PlanExpression}
 use Rattle.gx_rules.specs.Guards.{is_own_role}
-use Rattle.gx_rules.specs.Rules.{RuleSetting, descending, without_order, in_order, slashes_over, slashes, Slashes}
+use Rattle.gx_rules.specs.Rules.{RuleSetting, descending, without_order, in_order, slashes_over, Slashes}
 use Rattle.gx_rule_laws.specs.KeepingRules.{RuleKeeps, rule_setting_of}
 use Rattle.gx_rule_laws.proofs.GuardLemmas.{given_if}
 use Rattle.gx_rule_laws.proofs.Descending.{means, below_source, ordered_so}

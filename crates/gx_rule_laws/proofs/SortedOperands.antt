@@ -1,13 +1,11 @@
 -- What is in document order stays so.
-use Rattle.std.proofs.Common.{◌≡◌, Bool, true, false, ◌&&◌, List, [], ◌∷◌, map, Option, None, Some, refl, sym, ◌∙◌, ap, subst, if◌then◌else◌}
+use Rattle.std.proofs.Common.{◌≡◌, Bool, true, false, ◌&&◌, List, [], ◌∷◌, map, Option, None, Some, refl, sym, ◌∙◌, ap, if◌then◌else◌}
 use Rattle.std.specs.List.{list_all}
-use Rattle.gx_base.specs.declared.place.Place.{Place}
 use Rattle.gx_types.specs.declared.step.Axis.{Axis}
 use Rattle.gx_types.specs.declared.step.Test.{Test}
 use Rattle.gx_types.specs.SchemaSet.{SchemaSet}
-use Rattle.gx_types.specs.SequenceType.{SequenceType}
-use Rattle.gx_model.specs.Forest.{Forest, PlainNode}
-use Rattle.gx_model.specs.Item.{Items, atom, node}
+use Rattle.gx_model.specs.Forest.{Forest}
+use Rattle.gx_model.specs.Item.{Items, node}
 use Rattle.gx_model.specs.DocumentOrder.{in_document_order}
 use Rattle.gx_core.specs.declared.expression.BinaryOp.TheVariants as binary
 use Rattle.gx_core.specs.declared.expression.NodeCombination.{NodeCombination}
@@ -16,16 +14,15 @@ use Rattle.gx_core.specs.declared.operator.Operator.{Operator}
 use Rattle.gx_core.specs.declared.operator.Operator.TheVariants as operators
 use Rattle.gx_core.specs.Bindings.{look_up}
 use Rattle.gx_core.specs.CombiningNodes.{combined, nodes_combined}
-use Rattle.gx_core.specs.Expression.{At, Parts, no_parts, a_part}
-use Rattle.gx_core.specs.Outcome.{Outcome, gives, raises, wrong, after, given}
-use Rattle.gx_core.specs.Paths.{is_node, places_of, stepped, put_in_order}
+use Rattle.gx_core.specs.Expression.{At, no_parts, a_part}
+use Rattle.gx_core.specs.Outcome.{Outcome, gives, raises, wrong, given}
+use Rattle.gx_core.specs.Paths.{is_node, places_of, stepped}
 use Rattle.gx_core.specs.Meaning.{Context, Bindings, Denotation, acts, all_of, denoted, meaning, meanings}
 use Rattle.gx_core.specs.Soundness.{context_of}
 use Rattle.gx_core.proofs.StepsInOrder.{steps_are_in_order}
-use Rattle.gx_plan.specs.declared.plan.Carried.{Carried}
 use Rattle.gx_plan.specs.Plan.{PlanExpression, typed_expression, typed_parts}
 use Rattle.gx_rules.specs.Guards.{gives_nodes_in_order, is_ordered, is_sorted}
-use Rattle.gx_rules.specs.Rules.{sorted, Sorted}
+use Rattle.gx_rules.specs.Rules.{Sorted}
 use Rattle.gx_rule_laws.specs.KeepingRules.{RuleKeeps}
 use Rattle.gx_rule_laws.proofs.GuardLemmas.{met}
 use Rattle.gx_rule_laws.proofs.Outcomes.{StaysInOrder, order_is, stays_after}

@@ -1,5 +1,5 @@
 -- What the parts of a sound operator come to.
-use Rattle.std.proofs.Common.{◌≡◌, ◌≤◌, true, List, [], ◌∷◌, ◌++◌, length, refl, sym, subst, arith}
+use Rattle.std.proofs.Common.{◌≡◌, ◌≤◌, true, List, [], ◌∷◌, ◌++◌, length, refl, arith}
 use Rattle.gx_types.specs.SchemaSet.{SchemaSet}
 use Rattle.gx_types.specs.SequenceType.{SequenceType}
 use Rattle.gx_model.specs.Belongs.{Belongs}
@@ -7,10 +7,10 @@ use Rattle.gx_model.specs.Forest.{Forest}
 use Rattle.gx_model.specs.Item.{Items}
 use Rattle.gx_core.specs.declared.operator.Operator.{Operator}
 use Rattle.gx_core.specs.Bindings.{Types}
-use Rattle.gx_core.specs.Evaluations.{PartEvaluation, evaluation_of_part}
-use Rattle.gx_core.specs.Expression.{At, Parts, a_part, each_of, annotation_of}
+use Rattle.gx_core.specs.Evaluations.{evaluation_of_part}
+use Rattle.gx_core.specs.Expression.{At, annotation_of}
 use Rattle.gx_core.specs.Meaning.{Bindings, meaning}
-use Rattle.gx_core.specs.Soundness.{TypedExpression, Setting, context_of, Keeps, CallsKeepTypes, Situation, IsSound}
+use Rattle.gx_core.specs.Soundness.{TypedExpression, Setting, context_of, Keeps, CallsKeepTypes, IsSound}
 use Rattle.gx_core.proofs.KeptFacts.{calls_keep_still}
 use Rattle.gx_core.proofs.SoundQueries.{keeps_its_type}
 use Rattle.gx_static.specs.Rule.{is_at_most_one}

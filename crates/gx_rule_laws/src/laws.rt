@@ -1,7 +1,7 @@
 // Laws of the rules of rewriting: each keeps what an expression comes to.
 
 ghost use Rattle.gx_rule_laws.specs.KeepingRules.{RuleKeeps, IdleKeeps};
-ghost use Rattle.gx_rules.specs.Rules.{Joins, One, Sorted, Slashes, Single, Decided};
+ghost use Rattle.gx_rules.specs.Rules.{Joins, One, Sorted, Slashes, Single, Decided, Flat};
 
 /// Two loops over a comparison of keys come to the same where they are marked as a join: a mark has no meaning.
 pub fn joins_keep()
@@ -38,4 +38,10 @@ pub fn decided_keeps()
 /// their own typed values (section 2.4.2).
 pub fn idle_keeps()
     ensures { IdleKeeps }
+{}
+
+/// The nodes of flat expressions stand in document order, each once: at most one item, nodes of a step to children, to attributes or to the
+/// node itself, and those of such steps from nodes that stand beside one another in order (XQuery 1.0, section 3.2).
+pub fn flat_keeps()
+    ensures { RuleKeeps Flat }
 {}
