@@ -14,3 +14,8 @@ pub mod IdleOperators
 pub mod NearSteps
 pub mod FlatValues
 pub mod FlatOperands
+pub mod QuietOperators
+pub mod QuietCalls
+pub mod QuietComparisons
+pub mod QuietActs
+pub mod QuietExpressions

@@ -1,1 +1,2 @@
 pub mod KeepingRules
+pub mod QuietValues

@@ -1,6 +1,7 @@
 // Laws of the rules of rewriting: each keeps what an expression comes to.
 
 ghost use Rattle.gx_rule_laws.specs.KeepingRules.{RuleKeeps, IdleKeeps};
+ghost use Rattle.gx_rule_laws.specs.QuietValues.{QuietExpressionsHaveValues};
 ghost use Rattle.gx_rules.specs.Rules.{Joins, One, Sorted, Slashes, Single, Decided, Flat};
 
 /// Two loops over a comparison of keys come to the same where they are marked as a join: a mark has no meaning.
@@ -44,4 +45,10 @@ pub fn idle_keeps()
 /// node itself, and those of such steps from nodes that stand beside one another in order (XQuery 1.0, section 3.2).
 pub fn flat_keeps()
     ensures { RuleKeeps Flat }
+{}
+
+/// An expression in which nothing can raise an error and nothing makes a node has a value, and leaves the forest as it is (XQuery 1.0,
+/// section 2.3.4).
+pub fn quiet_expressions_have_values()
+    ensures { QuietExpressionsHaveValues }
 {}
