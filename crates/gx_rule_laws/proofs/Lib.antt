@@ -19,3 +19,5 @@ pub mod QuietCalls
 pub mod QuietComparisons
 pub mod QuietActs
 pub mod QuietExpressions
+pub mod ReplacedParts
+pub mod Rewriting

@@ -1,2 +1,3 @@
 pub mod KeepingRules
 pub mod QuietValues
+pub mod KeepingSoundness

@@ -2,6 +2,7 @@
 
 ghost use Rattle.gx_rule_laws.specs.KeepingRules.{RuleKeeps, IdleKeeps};
 ghost use Rattle.gx_rule_laws.specs.QuietValues.{QuietExpressionsHaveValues};
+ghost use Rattle.gx_rule_laws.specs.KeepingSoundness.{RewritingKeeps};
 ghost use Rattle.gx_rules.specs.Rules.{Joins, One, Sorted, Slashes, Single, Decided, Flat};
 
 /// Two loops over a comparison of keys come to the same where they are marked as a join: a mark has no meaning.
@@ -51,4 +52,10 @@ pub fn flat_keeps()
 /// section 2.3.4).
 pub fn quiet_expressions_have_values()
     ensures { QuietExpressionsHaveValues }
+{}
+
+/// What any number of applications of rules lead to comes to the same, and stands as well, where each rule hands on that an expression
+/// stands well.
+pub fn rewriting_keeps()
+    ensures { RewritingKeeps }
 {}
