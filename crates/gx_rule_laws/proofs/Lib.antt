@@ -21,3 +21,9 @@ pub mod QuietActs
 pub mod QuietExpressions
 pub mod ReplacedParts
 pub mod Rewriting
+pub mod AnyItems
+pub mod HandedParts
+pub mod FittingOutcomes
+pub mod Reordering
+pub mod LetsStand
+pub mod DecidedStands

@@ -76,7 +76,7 @@ units_taken (suc number) (t ∷ ts) (u ∷ us) e =
 
 -- ---- variable 0 has no type in the scope of a binder either
 
-none_typed_behind : (variables : Types) (numbers : List ℕ) (types : Types) → look_up variables 0 ≡ None → look_up types 0 ≡ None
+pub none_typed_behind : (variables : Types) (numbers : List ℕ) (types : Types) → look_up variables 0 ≡ None → look_up types 0 ≡ None
     → look_up (carried_types variables numbers ++ types) 0 ≡ None
 none_typed_behind variables [] types v t = t
 none_typed_behind variables (number ∷ numbers) types v t =

@@ -1,8 +1,7 @@
 -- When rewriting keeps what plans come to: each rule hands on that an expression stands well, and so do any number of applications.
-use Rattle.std.specs.Prelude.{◌≡◌, ℕ, List, [], ◌∷◌, Option, None, Some}
+use Rattle.std.specs.Prelude.{◌≡◌, ◌≢◌, ℕ, List, [], ◌∷◌, Option, None, Some}
 use Rattle.gx_base.specs.declared.type_name.Builtin.TheVariants.{Integer}
 use Rattle.gx_types.specs.SchemaSet.{SchemaSet}
-use Rattle.gx_types.specs.SequenceType.{SequenceType}
 use Rattle.gx_core.specs.declared.operator.Operator.{Operator}
 use Rattle.gx_core.specs.declared.operator.Operator.TheVariants as operators
 use Rattle.gx_core.specs.declared.signature.FunctionSignature.{FunctionSignature}
@@ -21,9 +20,9 @@ use Rattle.gx_rule_laws.specs.QuietValues.{plan_setting}
 
 -- ---- where an expression of a plan stands
 
--- a position that carries a type carries xs:integer
+-- the variable of a position carries xs:integer
 abbrev pub CountsByIntegers : (variables : Types) → Operator → Type 0
-CountsByIntegers variables (operators.For binder position) = (t : SequenceType) → look_up variables position ≡ Some t → t ≡ atomic Integer
+CountsByIntegers variables (operators.For binder position) = position ≢ 0 → look_up variables position ≡ Some (atomic Integer)
 CountsByIntegers variables _ = Unit {0}
 
 -- so does each in an expression
