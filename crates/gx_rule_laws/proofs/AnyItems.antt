@@ -102,7 +102,7 @@ item_takes s is forest (node place) shape honest e f = by_found (node_in forest 
         subst (λ (t : Shape). Takes s any_item (t ∷ [])) same
         (node_takes s (shape_of v) (node_formed s is forest place v honest (slice_get forest place.tree) refl g) (of_a_tree v))
 
-all_take : (s : SchemaSet) → IsSchemaSet s → (forest : Forest) (xs : Items) (seen : List Shape) → IsHonest s forest → HaveShapes s forest xs seen
+pub all_take : (s : SchemaSet) → IsSchemaSet s → (forest : Forest) (xs : Items) (seen : List Shape) → IsHonest s forest → HaveShapes s forest xs seen
     → Takes s (star any_item) seen
 all_take s is forest [] [] honest h = ([], refl, tt)
 all_take s is forest [] (shape ∷ seen) honest h = absurd h

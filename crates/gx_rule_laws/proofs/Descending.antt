@@ -159,7 +159,7 @@ abbrev pub means : Context → PlanExpression → Denotation
 means context e = meaning context (typed_expression e)
 
 -- a step to all below, from the node of a variable
-step_below : (context : Context) (variable : ℕ) (body : PlanExpression) → is_step_to_all_below variable body ≡ true
+pub step_below : (context : Context) (variable : ℕ) (body : PlanExpression) → is_step_to_all_below variable body ≡ true
     → means context body ≡ denoted context (operators.Step axes.DescendantOrSelf tests.Node variable) []
 step_below context variable (At place outer carried (operators.Step axes.DescendantOrSelf tests.Node number) no_parts) h =
     ap (λ (n : ℕ). denoted context (operators.Step axes.DescendantOrSelf tests.Node n) []) (eqb-true number variable h)

@@ -73,13 +73,18 @@ places_back (n ∷ nodes) = ap (λ (ns : List PlainNode). n ∷ ns) (places_back
 items_given : (xs ys : Items) (forest now : Forest) → gives xs forest ≡ gives ys now → xs ≡ ys
 items_given xs ys forest now e = cc
 
-pub axis_ascends : (s : SchemaSet) (forest : Forest) (axis : Axis) (asks : Test) (from : PlainNode) → Ascends comes_before (on_axis s forest from axis asks)
-axis_ascends s forest axis asks from =
+pub axis_in_order : (s : SchemaSet) (forest : Forest) (axis : Axis) (asks : Test) (from : PlainNode)
+    → in_document_order forest (on_axis s forest from axis asks) ≡ on_axis s forest from axis asks
+axis_in_order s forest axis asks from =
     let nodes : List PlainNode = on_axis s forest from axis asks in
     let same : map node (in_document_order forest nodes) ≡ map node nodes =
     items_given (map node (in_document_order forest nodes)) (map node nodes) forest forest
     (sym (order_of_nodes nodes forest) ∙ steps_are_in_order s axis asks (node from ∷ []) (map node nodes) forest forest refl) in
-    subst (Ascends comes_before) (sym (places_back (in_document_order forest nodes)) ∙ ap places_of same ∙ places_back nodes) (ordered_ascend forest nodes)
+    sym (places_back (in_document_order forest nodes)) ∙ ap places_of same ∙ places_back nodes
+
+pub axis_ascends : (s : SchemaSet) (forest : Forest) (axis : Axis) (asks : Test) (from : PlainNode) → Ascends comes_before (on_axis s forest from axis asks)
+axis_ascends s forest axis asks from =
+    subst (Ascends comes_before) (axis_in_order s forest axis asks from) (ordered_ascend forest (on_axis s forest from axis asks))
 
 -- one node is flat
 one_is_flat : (n : PlainNode) → IsFlat (length n.path) (is_some n.attribute) (n ∷ [])

@@ -27,3 +27,8 @@ pub mod FittingOutcomes
 pub mod Reordering
 pub mod LetsStand
 pub mod DecidedStands
+pub mod SingleStands
+pub mod StepsStand
+pub mod LoopsStand
+pub mod OrdersStand
+pub mod SlashesStand

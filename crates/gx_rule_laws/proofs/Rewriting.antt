@@ -52,7 +52,7 @@ all_keep setting variables one Joins = joins_keep setting variables
 
 -- ---- what an operator binds depends on the number of the parts before
 
-abbrev units : List SequenceType → List (Unit {0})
+abbrev pub units : List SequenceType → List (Unit {0})
 units ts = map (λ t. tt) ts
 
 units_next : (before other : List SequenceType) (t u : SequenceType) → units before ≡ units other → units (before ++ t ∷ []) ≡ units (other ++ u ∷ [])
@@ -63,7 +63,7 @@ units_next before other t u e =
 units_behind : (us vs : List (Unit {0})) → tt ∷ us ≡ tt ∷ vs → us ≡ vs
 units_behind us vs e = cc
 
-units_taken : (number : ℕ) (ts us : List SequenceType) → units ts ≡ units us → units (take number ts) ≡ units (take number us)
+pub units_taken : (number : ℕ) (ts us : List SequenceType) → units ts ≡ units us → units (take number ts) ≡ units (take number us)
 units_taken zero [] [] e = refl
 units_taken zero [] (u ∷ us) e = absurd (cc)
 units_taken zero (t ∷ ts) [] e = absurd (cc)
