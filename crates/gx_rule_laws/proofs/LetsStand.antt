@@ -50,7 +50,7 @@ module _ (s : SchemaSet) (variables : Types) (known : List FunctionSignature) (c
   let_binds binder value body types value_stands fits situation = (
     record { grown = growth_is_an_order.reflexive situation.forest; honest = situation.honest; fits = situation.fits },
     by_outcome (meaning context (typed_expression value) situation.bindings situation.forest) refl
-    (keeps_its_type setting (typed_expression value) types value_stands.stands.sound situation),
+        (keeps_its_type setting (typed_expression value) types value_stands.stands.sound situation),
   )
     where
       by_outcome : (o : Outcome Items) → meaning context (typed_expression value) situation.bindings situation.forest ≡ o

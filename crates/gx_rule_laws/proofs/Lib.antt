@@ -32,3 +32,6 @@ pub mod StepsStand
 pub mod LoopsStand
 pub mod OrdersStand
 pub mod SlashesStand
+pub mod TestsStand
+pub mod JoinsStand
+pub mod AllRules

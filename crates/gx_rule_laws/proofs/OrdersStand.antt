@@ -53,9 +53,9 @@ module _ (s : SchemaSet) (variables : Types) (known : List FunctionSignature) (c
       sound = ((λ situation. kept situation), (e_stands.stands.sound, tt));
       well_bound = (
         (λ situation. (
-            record { grown = growth_is_an_order.reflexive situation.forest; honest = situation.honest; fits = situation.fits },
-            nothing_behind situation (meaning context (typed_expression e) situation.bindings situation.forest),
-          )),
+          record { grown = growth_is_an_order.reflexive situation.forest; honest = situation.honest; fits = situation.fits },
+          nothing_behind situation (meaning context (typed_expression e) situation.bindings situation.forest),
+        )),
         (e_stands.stands.well_bound, tt),
       );
     };

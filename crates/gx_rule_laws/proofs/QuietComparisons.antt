@@ -19,7 +19,7 @@ use Rattle.gx_static.specs.declared.comparison.Family.TheVariants as families
 use Rattle.gx_static.specs.Rule.{all_items, is_of_family}
 use Rattle.gx_model.proofs.ListLemmas.{map_appended}
 use Rattle.gx_static.proofs.Comparisons.{atoms_are_among}
-use Rattle.gx_static.proofs.Families.{ is_value_of, IsAtomSo, family_item}
+use Rattle.gx_static.proofs.Families.{is_value_of, IsAtomSo, family_item}
 use Rattle.gx_static.proofs.ItemLemmas.{EachItem, IsAtom, Meets, items_meet}
 use Rattle.std.proofs.lemmas.Bool.{and_parts}
 use Rattle.gx_rules.specs.Guards.{compare_quietly, are_compared_quietly}

@@ -27,7 +27,7 @@ use Rattle.gx_rules.specs.Rules.{RuleSetting, Rule, One, Sorted, Flat, Slashes, 
 use Rattle.gx_rules.specs.Normal.{Applies, StepsTo, PartStepsTo, ReachesIn, Reaches}
 use Rattle.gx_rule_laws.specs.KeepingRules.{AreRegular, StandsWell, KeepsWhereApplied, HasOneBoolean}
 use Rattle.gx_rule_laws.specs.QuietValues.{with_carried, carried_types, carried_binders, plan_setting}
-use Rattle.gx_rule_laws.specs.KeepingSoundness.{PartsCountByIntegers, StandsInPlan, plan_rule_setting, RuleHandsOn, IsRewrittenWell, RewritingKeeps}
+use Rattle.gx_rule_laws.specs.KeepingSoundness.{PartsCountByIntegers, StandsInPlan, plan_rule_setting, RuleHandsOn, IsRewrittenWell}
 use Rattle.gx_rule_laws.proofs.Ones.{one_keeps}
 use Rattle.gx_rule_laws.proofs.SortedOperands.{sorted_keeps}
 use Rattle.gx_rule_laws.proofs.FlatOperands.{flat_keeps}
@@ -113,7 +113,7 @@ module _ (s : SchemaSet) (variables : Types) (known : List FunctionSignature) (c
   sound_behind operator before other (a_part first others) types e h = (
     subst (λ (us : List (Unit {0})). IsSound setting first (carried_types variables (numbers_bound_by operator us) ++ types)) e h.0,
     sound_behind operator (before ++ annotation_of first ∷ []) (other ++ annotation_of first ∷ []) others types
-    (units_next before other (annotation_of first) (annotation_of first) e) h.1,
+        (units_next before other (annotation_of first) (annotation_of first) e) h.1,
   )
 
   bound_behind : (operator : Operator) (before other : List SequenceType) (parts : Parts SequenceType) (types : Types) → units before ≡ units other
@@ -122,7 +122,7 @@ module _ (s : SchemaSet) (variables : Types) (known : List FunctionSignature) (c
   bound_behind operator before other (a_part first others) types e h = (
     subst (λ (us : List (Unit {0})). IsWellBound setting first (carried_types variables (numbers_bound_by operator us) ++ types)) e h.0,
     bound_behind operator (before ++ annotation_of first ∷ []) (other ++ annotation_of first ∷ []) others types
-    (units_next before other (annotation_of first) (annotation_of first) e) h.1,
+        (units_next before other (annotation_of first) (annotation_of first) e) h.1,
   )
 
   parts_same : (start : Forest) (operator : Operator) (before : List SequenceType) (parts : Parts SequenceType) (types : Types)
@@ -258,6 +258,8 @@ module _ (s : SchemaSet) (variables : Types) (known : List FunctionSignature) (c
       let others = reached_keep n next other types first.stands rest in
       record { stands = others.stands; same = λ situation. others.same situation ∙ first.same situation }
 
-pub rewriting_keeps : RewritingKeeps
-rewriting_keeps hands_on s variables known calls e other types one stands reaches =
+pub rewritten_well : ((rule : Rule) → RuleHandsOn rule) → (s : SchemaSet) (variables : Types) (known : List FunctionSignature) (calls : CallOutcomes)
+    (e other : PlanExpression) (types : Types) → HasOneBoolean s → StandsInPlan s variables known calls e types → Reaches (plan_rule_setting s variables) e other
+    → IsRewrittenWell s variables known calls e other types
+rewritten_well hands_on s variables known calls e other types one stands reaches =
     reached_keep s variables known calls one hands_on reaches.applications e other types stands reaches.reached

@@ -59,15 +59,15 @@ turns_so Holds context first axis passes asks variable bindings [] number forest
 turns_so Holds context first axis passes asks variable bindings (atom a ∷ xs) number forest h = (
   h.0,
   subst (λ (o : Outcome Items). AllByRecursion Holds (evaluations_after o (λ more left. turn_evaluations 1 (λ k x. item_bound variable 0 k x ++ bindings)
-  (denoted context (operators.Step axis asks variable) []) (suc number) xs left))) (sym (own_item context axis asks variable number (atom a) bindings forest)) tt,
+      (denoted context (operators.Step axis asks variable) []) (suc number) xs left))) (sym (own_item context axis asks variable number (atom a) bindings forest)) tt,
 )
 turns_so Holds context first axis passes asks variable bindings (node place ∷ xs) number forest h = (
   h.0,
   subst (λ (o : Outcome Items). AllByRecursion Holds (evaluations_after o (λ more left. turn_evaluations 1 (λ k x. item_bound variable 0 k x ++ bindings)
-  (denoted context (operators.Step axis asks variable) []) (suc number) xs left))) (sym (own_item context axis asks variable number (node place) bindings forest))
-  (turns_so Holds context first axis passes asks variable bindings xs (suc number) forest
-  (subst (λ (o : Outcome Items). AllByRecursion Holds (evaluations_after o (λ more left. turn_evaluations 1 (λ k x. item_bound variable 0 k x ++ bindings)
-  (denoted context (operators.Step first passes variable) []) (suc number) xs left))) (own_item context first passes variable number (node place) bindings forest) h.1)),
+      (denoted context (operators.Step axis asks variable) []) (suc number) xs left))) (sym (own_item context axis asks variable number (node place) bindings forest))
+      (turns_so Holds context first axis passes asks variable bindings xs (suc number) forest
+      (subst (λ (o : Outcome Items). AllByRecursion Holds (evaluations_after o (λ more left. turn_evaluations 1 (λ k x. item_bound variable 0 k x ++ bindings)
+      (denoted context (operators.Step first passes variable) []) (suc number) xs left))) (own_item context first passes variable number (node place) bindings forest) h.1)),
 )
 
 -- a step to all below is regular

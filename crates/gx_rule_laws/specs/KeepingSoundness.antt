@@ -54,6 +54,9 @@ RuleHandsOn rule =
     → StandsInPlan schemas variables known calls e types → applied (plan_rule_setting schemas variables) rule e ≡ Some other
     → StandsInPlan schemas variables known calls other types
 
+abbrev pub RulesHandOn : Type 0
+RulesHandOn = (rule : Rule) → RuleHandsOn rule
+
 -- what any number of applications lead to stands in the plan again, and comes to the same
 pub record IsRewrittenWell (schemas : SchemaSet) (variables : Types) (known : List FunctionSignature) (calls : CallOutcomes)
     (e other : PlanExpression) (types : Types) : Type 0 where
@@ -63,7 +66,6 @@ pub record IsRewrittenWell (schemas : SchemaSet) (variables : Types) (known : Li
 
 abbrev pub RewritingKeeps : Type 0
 RewritingKeeps =
-    ((rule : Rule) → RuleHandsOn rule)
-    → (schemas : SchemaSet) (variables : Types) (known : List FunctionSignature) (calls : CallOutcomes) (e other : PlanExpression) (types : Types)
+    (schemas : SchemaSet) (variables : Types) (known : List FunctionSignature) (calls : CallOutcomes) (e other : PlanExpression) (types : Types)
     → HasOneBoolean schemas → StandsInPlan schemas variables known calls e types → Reaches (plan_rule_setting schemas variables) e other
     → IsRewrittenWell schemas variables known calls e other types

@@ -2,7 +2,7 @@
 
 ghost use Rattle.gx_rule_laws.specs.KeepingRules.{RuleKeeps, IdleKeeps};
 ghost use Rattle.gx_rule_laws.specs.QuietValues.{QuietExpressionsHaveValues};
-ghost use Rattle.gx_rule_laws.specs.KeepingSoundness.{RewritingKeeps};
+ghost use Rattle.gx_rule_laws.specs.KeepingSoundness.{RulesHandOn, RewritingKeeps};
 ghost use Rattle.gx_rules.specs.Rules.{Joins, One, Sorted, Slashes, Single, Decided, Flat};
 
 /// Two loops over a comparison of keys come to the same where they are marked as a join: a mark has no meaning.
@@ -54,8 +54,13 @@ pub fn quiet_expressions_have_values()
     ensures { QuietExpressionsHaveValues }
 {}
 
-/// What any number of applications of rules lead to comes to the same, and stands as well, where each rule hands on that an expression
-/// stands well.
+/// What a rule puts in the place of an expression that stands in a plan stands in the plan again: it is sound, and what it binds belongs to
+/// the types that the variables carry.
+pub fn rules_hand_on()
+    ensures { RulesHandOn }
+{}
+
+/// What any number of applications of rules lead to comes to the same as the expression of the plan, and stands in the plan again.
 pub fn rewriting_keeps()
     ensures { RewritingKeeps }
 {}

@@ -1,4 +1,4 @@
-use Rattle.gx_rule_laws.proofs.Rewriting.{rewriting_keeps}
+use Rattle.gx_rule_laws.proofs.AllRules.{rewriting_keeps}
 use Rattle.gx_rule_laws.proofs.laws.rewriting_keeps.Goals as goal
 
 pub returns : goal.returns
