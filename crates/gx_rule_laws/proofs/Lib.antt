@@ -35,3 +35,4 @@ pub mod SlashesStand
 pub mod TestsStand
 pub mod JoinsStand
 pub mod AllRules
+pub mod RewrittenPlans

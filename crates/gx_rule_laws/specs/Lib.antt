@@ -1,3 +1,4 @@
 pub mod KeepingRules
 pub mod QuietValues
 pub mod KeepingSoundness
+pub mod RewrittenQueries

@@ -3,6 +3,7 @@
 ghost use Rattle.gx_rule_laws.specs.KeepingRules.{RuleKeeps, IdleKeeps};
 ghost use Rattle.gx_rule_laws.specs.QuietValues.{QuietExpressionsHaveValues};
 ghost use Rattle.gx_rule_laws.specs.KeepingSoundness.{RulesHandOn, RewritingKeeps};
+ghost use Rattle.gx_rule_laws.specs.RewrittenQueries.{RewritingKeepsOutcomes};
 ghost use Rattle.gx_rules.specs.Rules.{Joins, One, Sorted, Slashes, Single, Decided, Flat};
 
 /// Two loops over a comparison of keys come to the same where they are marked as a join: a mark has no meaning.
@@ -63,4 +64,10 @@ pub fn rules_hand_on()
 /// What any number of applications of rules lead to comes to the same as the expression of the plan, and stands in the plan again.
 pub fn rewriting_keeps()
     ensures { RewritingKeeps }
+{}
+
+/// A plan that any number of applications of rules lead to has the outcome of the plan given, however many calls may be active: the same
+/// items, forest and code.
+pub fn rewriting_keeps_outcomes()
+    ensures { RewritingKeepsOutcomes }
 {}
