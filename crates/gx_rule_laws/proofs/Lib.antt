@@ -36,3 +36,4 @@ pub mod TestsStand
 pub mod JoinsStand
 pub mod AllRules
 pub mod RewrittenPlans
+pub mod FairSteps

@@ -55,7 +55,7 @@ all_keep setting variables one Joins = joins_keep setting variables
 abbrev pub units : List SequenceType → List (Unit {0})
 units ts = map (λ t. tt) ts
 
-units_next : (before other : List SequenceType) (t u : SequenceType) → units before ≡ units other → units (before ++ t ∷ []) ≡ units (other ++ u ∷ [])
+pub units_next : (before other : List SequenceType) (t u : SequenceType) → units before ≡ units other → units (before ++ t ∷ []) ≡ units (other ++ u ∷ [])
 units_next before other t u e =
     map_appended (λ (x : SequenceType). tt) before (t ∷ []) ∙ ap (λ (us : List (Unit {0})). us ++ tt ∷ []) e
     ∙ sym (map_appended (λ (x : SequenceType). tt) other (u ∷ []))

@@ -2,3 +2,4 @@ pub mod KeepingRules
 pub mod QuietValues
 pub mod KeepingSoundness
 pub mod RewrittenQueries
+pub mod FairJoins

@@ -1,3 +1,5 @@
+use Rattle.gx_rule_laws.proofs.FairSteps.{joins_there}
+use Rattle.gx_rule_laws.specs.FairJoins.{RewritingKeepsJoinsFair}
 use Rattle.gx_rule_laws.proofs.Joins.{joins_keep}
 use Rattle.gx_rule_laws.proofs.laws.joins_keep.Goals as goal
 
