@@ -37,3 +37,5 @@ pub mod JoinsStand
 pub mod AllRules
 pub mod RewrittenPlans
 pub mod FairSteps
+pub mod FairRules
+pub mod FairMaking

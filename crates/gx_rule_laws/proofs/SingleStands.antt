@@ -44,7 +44,7 @@ one_belongs : (s : SchemaSet) (forest : Forest) → Belongs s forest (atom (inte
 one_belongs s forest = one_atom_belongs s forest (names.Builtin Integer) (integer_atom (pos 1)) (0, refl) (0, refl)
 
 -- the item and its position may be bound in either order
-swapped : (m n : ℕ) → m ≢ n → (a b : Option SequenceType) (types : Types)
+pub swapped : (m n : ℕ) → m ≢ n → (a b : Option SequenceType) (types : Types)
     → SameTypes (with_carried m a (with_carried n b []) ++ types) (with_carried n b [] ++ (with_carried m a [] ++ types))
 swapped m n differ None None types number = refl
 swapped m n differ None (Some u) types number = refl

@@ -212,16 +212,16 @@ module _ (s : SchemaSet) (variables : Types) (known : List FunctionSignature) (c
   source_stands e types stands = stands
 
 -- what is put in order, where there is something
-record IsOrderOf (s : SchemaSet) (place : Place) (found : Option PlanExpression) (other : PlanExpression) : Type 0 where
-  operand : PlanExpression
-  is_found : found ≡ Some operand
-  is_made : made s place operators.Order (one_part operand) ≡ other
+pub record IsOrderOf (s : SchemaSet) (place : Place) (found : Option PlanExpression) (other : PlanExpression) : Type 0 where
+  pub operand : PlanExpression
+  pub is_found : found ≡ Some operand
+  pub is_made : made s place operators.Order (one_part operand) ≡ other
 
 order_of_found : (s : SchemaSet) (place : Place) (found : Option PlanExpression) (other : PlanExpression) → in_order s place found ≡ Some other → IsOrderOf s place found other
 order_of_found s place None other h = absurd (cc)
 order_of_found s place (Some e) other h = record { operand = e; is_found = refl; is_made = cc }
 
-over_source : (s : SchemaSet) (variables : Types) (place : Place) (variable : ℕ) (source body other : PlanExpression) → slashes_over (plan_rule_setting s variables) place variable source body ≡ Some other
+pub over_source : (s : SchemaSet) (variables : Types) (place : Place) (variable : ℕ) (source body other : PlanExpression) → slashes_over (plan_rule_setting s variables) place variable source body ≡ Some other
     → (asks : Test) × IsOrderOf s place (descending (plan_rule_setting s variables) asks (without_order source)) other
 over_source s variables place variable source (At p o c (operators.Step axes.Child asks number) no_parts) other h =
     let guard = given_if (nat_eq number variable) (in_order s place (descending (plan_rule_setting s variables) asks (without_order source))) other h in
