@@ -147,13 +147,13 @@ module _ (s : SchemaSet) (variables : Types) (known : List FunctionSignature) (c
       let keys = keys_of_family left right second left_stands right_stands left_value right_value family in
       subst (λ (d : PlanExpression). Fair d types) guard.1 (record {
         fair = (
-            (λ marked. absurd (cc)),
-            (fair.fair.1.0, (((λ marked. other_value), (loop_fair.1.0, ((tt, (((λ marked. keys), compared_fair.1), (test_fair.1.1.0, ((tt, tt), tt)))), tt))), tt)),
-          );
+          (λ marked. absurd (cc)),
+          (fair.fair.1.0, (((λ marked. other_value), (loop_fair.1.0, ((tt, (((λ marked. keys), compared_fair.1), (test_fair.1.1.0, ((tt, tt), tt)))), tt))), tt)),
+        );
         compare = (
-            (λ marked. absurd (cc)),
-            (fair.compare.1.0, (((λ marked. absurd (cc)), (loop_compare.1.0, (((λ marked. absurd (cc)), (((λ marked. λ situation. compared_value situation), compared_compare.1), (test_compare.1.1.0, (((λ marked. absurd (cc)), tt), tt)))), tt))), tt)),
-          );
+          (λ marked. absurd (cc)),
+          (fair.compare.1.0, (((λ marked. absurd (cc)), (loop_compare.1.0, (((λ marked. absurd (cc)), (((λ marked. λ situation. compared_value situation), compared_compare.1), (test_compare.1.1.0, (((λ marked. absurd (cc)), tt), tt)))), tt))), tt)),
+        );
       })
   by_keys place o p1 o1 p2 o2 absent ao c c1 c2 ac outer inner source other_source _ result other types stands fair h = absurd (cc)
 

@@ -39,3 +39,4 @@ pub mod RewrittenPlans
 pub mod FairSteps
 pub mod FairRules
 pub mod FairMaking
+pub mod FairRewriting

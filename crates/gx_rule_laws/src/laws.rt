@@ -4,6 +4,7 @@ ghost use Rattle.gx_rule_laws.specs.KeepingRules.{RuleKeeps, IdleKeeps};
 ghost use Rattle.gx_rule_laws.specs.QuietValues.{QuietExpressionsHaveValues};
 ghost use Rattle.gx_rule_laws.specs.KeepingSoundness.{RulesHandOn, RewritingKeeps};
 ghost use Rattle.gx_rule_laws.specs.RewrittenQueries.{RewritingKeepsOutcomes};
+ghost use Rattle.gx_rule_laws.specs.FairJoins.{RewritingKeepsJoinsFair};
 ghost use Rattle.gx_rules.specs.Rules.{Joins, One, Sorted, Slashes, Single, Decided, Flat};
 
 /// Two loops over a comparison of keys come to the same where they are marked as a join: a mark has no meaning.
@@ -70,4 +71,10 @@ pub fn rewriting_keeps()
 /// items, forest and code.
 pub fn rewriting_keeps_outcomes()
     ensures { RewritingKeepsOutcomes }
+{}
+
+/// Joins are fair in what any number of applications of rules lead to, where they are fair in the expression of the plan: the right source
+/// and the keys have values wherever they stand, and leave the forest as it is.
+pub fn rewriting_keeps_joins_fair()
+    ensures { RewritingKeepsJoinsFair }
 {}
