@@ -1,5 +1,5 @@
 -- All rules hand on that an expression stands in its plan, and so rewriting keeps what it comes to.
-use Rattle.gx_rules.specs.Rules.{Rule, One, Sorted, Flat, Slashes, Single, Decided, Idle, Joins}
+use Rattle.gx_rules.specs.Rules.{One, Sorted, Flat, Slashes, Single, Decided, Idle, Joins}
 use Rattle.gx_rule_laws.specs.KeepingSoundness.{RulesHandOn, RewritingKeeps}
 use Rattle.gx_rule_laws.proofs.HandedParts.{one_hands_on, sorted_hands_on, flat_hands_on, idle_hands_on}
 use Rattle.gx_rule_laws.proofs.SlashesStand.{slashes_hand_on}

@@ -1,10 +1,8 @@
 -- Values of an honest forest are of items, whatever they are.
-use Rattle.std.proofs.Common.{◌≡◌, ◌⊎◌, inl, inr, ℕ, Bool, true, false, List, [], ◌∷◌, ◌++◌, Option, None, Some, refl, sym, ◌∙◌, ap, subst, if◌then◌else◌}
+use Rattle.std.proofs.Common.{◌≡◌, inl, inr, ℕ, List, [], ◌∷◌, Option, None, Some, refl, sym, ap, subst}
 use Rattle.std.specs.List.{slice_get}
 use Rattle.std.specs.Option.{option_map}
-use Rattle.gx_base.specs.declared.code.Code.{Code}
-use Rattle.gx_base.specs.declared.type_name.Builtin.{Builtin}
-use Rattle.gx_base.specs.declared.type_name.Builtin.TheVariants.{AnyType, AnySimple, AnyAtomic, UntypedAtomic, Str, Boolean, Integer, Decimal}
+use Rattle.gx_base.specs.declared.type_name.Builtin.TheVariants.{AnyAtomic, Str, Boolean, Integer, Decimal}
 use Rattle.gx_base.specs.declared.type_name.TypeName.{TypeName}
 use Rattle.gx_base.specs.declared.type_name.TypeName.TheVariants as names
 use Rattle.gx_num.specs.declared.Number.TheVariants.{Int, Dec}
@@ -16,7 +14,7 @@ use Rattle.gx_types.specs.Derivation.{DerivesFrom}
 use Rattle.gx_types.specs.SchemaSet.{SchemaSet}
 use Rattle.gx_types.specs.SchemaInvariant.{IsSchemaSet}
 use Rattle.gx_types.specs.SequenceType.{SequenceType, star}
-use Rattle.gx_types.specs.Takes.{Takes, Each, all_joined}
+use Rattle.gx_types.specs.Takes.{Takes}
 use Rattle.gx_types.proofs.PublicLaws.{derivation_is_a_preorder}
 use Rattle.gx_tree.specs.declared.attribute.Attribute.{Attribute}
 use Rattle.gx_tree.specs.PlainTree.{PlainTree, document, element, attribute, text}
@@ -29,7 +27,7 @@ use Rattle.gx_model.specs.Honest.{IsHonest, IsHonestTree}
 use Rattle.gx_model.specs.Item.{Item, atom, node, Items}
 use Rattle.gx_core.specs.Outcome.{Outcome, gives, raises, wrong}
 use Rattle.gx_core.specs.Soundness.{Setting, Keeps}
-use Rattle.gx_static.specs.Rule.{Ruling, has_type, has_none, type_if}
+use Rattle.gx_static.specs.Rule.{Ruling, has_type, has_none}
 use Rattle.gx_static.proofs.AtomicTypes.{untyped_is_atomic, boolean_is_atomic, nameable_is_atomic, integer_is_atomic}
 use Rattle.gx_rules.specs.Rules.{type_or_items}
 

@@ -1,32 +1,27 @@
 -- The `let` of a decided switch stands in the plan where the switch did.
-use Rattle.std.proofs.Common.{◌≡◌, ℕ, Bool, true, false, List, [], ◌∷◌, ◌++◌, Some, refl, sym, ◌∙◌, ap, subst, if◌then◌else◌}
+use Rattle.std.proofs.Common.{◌≡◌, ℕ, Bool, List, [], ◌∷◌, ◌++◌, ◌∙◌, ap, subst, if◌then◌else◌}
 use Rattle.std.specs.List.{AllByRecursion}
-use Rattle.gx_base.specs.declared.place.Place.{Place}
 use Rattle.gx_types.specs.SchemaSet.{SchemaSet}
 use Rattle.gx_types.specs.SequenceType.{SequenceType}
 use Rattle.gx_include.specs.Decision.{is_included}
-use Rattle.gx_model.specs.Forest.{Forest}
 use Rattle.gx_model.specs.Item.{Items}
-use Rattle.gx_core.specs.declared.cases.TypeCase.{TypeCase}
 use Rattle.gx_core.specs.declared.operator.Operator.TheVariants as operators
 use Rattle.gx_core.specs.declared.signature.FunctionSignature.{FunctionSignature}
 use Rattle.gx_core.specs.Bindings.{Types, position_bound, position_numbers}
-use Rattle.gx_core.specs.Evaluations.{PartEvaluation, evaluation_of_part, evaluations_after, branch_evaluations}
-use Rattle.gx_core.specs.Expression.{At, Parts, no_parts, a_part, each_of, annotation_of}
-use Rattle.gx_core.specs.Instances.{is_instance}
-use Rattle.gx_core.specs.Meaning.{CallOutcomes, Context, Bindings, meaning, meanings}
-use Rattle.gx_core.specs.Outcome.{Outcome, gives}
-use Rattle.gx_core.specs.Soundness.{Setting, context_of, Keeps, Fits, Situation, IsSound}
+use Rattle.gx_core.specs.Evaluations.{evaluation_of_part, evaluations_after, branch_evaluations}
+use Rattle.gx_core.specs.Expression.{At, no_parts, a_part, each_of, annotation_of}
+use Rattle.gx_core.specs.Meaning.{CallOutcomes, meaning, meanings}
+use Rattle.gx_core.specs.Outcome.{Outcome}
+use Rattle.gx_core.specs.Soundness.{Setting, context_of, Keeps}
 use Rattle.gx_core.proofs.SoundQueries.{keeps_its_type}
-use Rattle.gx_plan.specs.declared.plan.Carried.{Carried}
 use Rattle.gx_plan.specs.Plan.{PlanExpression, kind_carried, typed_expression, typed_parts}
-use Rattle.gx_plan.specs.Fitting.{FitsAt, IsWellBound}
+use Rattle.gx_plan.specs.Fitting.{FitsAt}
 use Rattle.gx_rules.specs.Rules.{made_let, binder_of, Decided}
 use Rattle.gx_rule_laws.specs.QuietValues.{carried_types, plan_setting}
 use Rattle.gx_rule_laws.specs.KeepingSoundness.{StandsInPlan, RuleHandsOn}
 use Rattle.gx_rule_laws.proofs.GuardLemmas.{met}
 use Rattle.gx_rule_laws.proofs.DecidedCases.{is_instance_where}
-use Rattle.gx_rule_laws.proofs.LetsStand.{ValueFits, let_stands, same_carried, case_fits_let}
+use Rattle.gx_rule_laws.proofs.LetsStand.{let_stands, same_carried, case_fits_let}
 use Rattle.gx_rule_laws.proofs.SoundParts.{kind_of}
 use Rattle.gx_rule_laws.proofs.Rewriting.{none_typed_behind}
 

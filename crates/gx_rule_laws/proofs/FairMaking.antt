@@ -1,5 +1,5 @@
 -- The join that a rule makes is fair, and each rule hands on that joins are fair.
-use Rattle.std.proofs.Common.{◌≡◌, ◌⊎◌, inl, inr, ℕ, zero, suc, Bool, true, false, not, ◌&&◌, ◌||◌, Option, None, Some, List, [], ◌∷◌, ◌++◌, refl, sym, ◌∙◌, ap, subst}
+use Rattle.std.proofs.Common.{◌≡◌, ◌⊎◌, inl, inr, zero, Bool, true, false, not, ◌&&◌, ◌||◌, None, Some, List, [], ◌∷◌, ◌++◌, refl, subst}
 use Rattle.std.proofs.lemmas.Bool.{and_parts}
 use Rattle.gx_base.specs.declared.place.Place.{Place}
 use Rattle.gx_base.specs.declared.type_name.Builtin.TheVariants as builtins
@@ -8,25 +8,23 @@ use Rattle.gx_types.specs.SchemaSet.{SchemaSet}
 use Rattle.gx_types.specs.SequenceType.{SequenceType}
 use Rattle.gx_include.specs.Decision.{is_included}
 use Rattle.gx_funcs.specs.declared.function.Function.TheVariants as functions
-use Rattle.gx_core.specs.declared.cases.TypeCase.{TypeCase}
 use Rattle.gx_core.specs.declared.expression.Binder.{Binder}
 use Rattle.gx_core.specs.declared.expression.BinaryOp.TheVariants as binary
 use Rattle.gx_core.specs.declared.operator.Operator.TheVariants as operators
 use Rattle.gx_core.specs.declared.signature.FunctionSignature.{FunctionSignature}
 use Rattle.gx_core.specs.Bindings.{Types, look_up}
-use Rattle.gx_core.specs.Expression.{At, no_parts, a_part, two_parts, three_parts, annotation_of}
-use Rattle.gx_core.specs.Meaning.{CallOutcomes, Context, meaning}
-use Rattle.gx_core.specs.Soundness.{Setting, context_of, Keeps, Situation}
+use Rattle.gx_core.specs.Expression.{At, no_parts, a_part, two_parts, three_parts}
+use Rattle.gx_core.specs.Meaning.{CallOutcomes, meaning}
+use Rattle.gx_core.specs.Soundness.{Setting, context_of, Keeps}
 use Rattle.gx_core.proofs.SoundQueries.{keeps_its_type}
 use Rattle.gx_static.specs.declared.comparison.Family.{Family}
 use Rattle.gx_static.specs.declared.comparison.Family.TheVariants as families
 use Rattle.gx_static.specs.Rule.{atomic, all_items, is_at_most_one, is_of_family, are_of_family}
 use Rattle.gx_static.proofs.Families.{is_value_of}
-use Rattle.gx_plan.specs.declared.plan.Role.TheVariants as roles
 use Rattle.gx_plan.specs.declared.plan.Carried.{Carried}
 use Rattle.gx_plan.specs.Plan.{PlanExpression, kind_carried, typed_expression}
 use Rattle.gx_rules.specs.Guards.{is_own_role, is_in_join, are_compared_quietly, is_quiet, is_flat, is_sorted, is_named_in, are_keys_of_one_family}
-use Rattle.gx_rules.specs.Rules.{Loop, Rule, One, Sorted, Flat, Slashes, Single, Decided, Idle, Joins, applied, any_atomic_values, occurs_once, with_position, made_as, made_let, binder_of, without_order, slashes_over, join_by_loop, join_by_test, join_by_keys, joined, may_be_joined}
+use Rattle.gx_rules.specs.Rules.{Rule, One, Sorted, Flat, Slashes, Single, Decided, Idle, Joins, applied, any_atomic_values, occurs_once, with_position, made_let, binder_of, without_order, slashes_over, join_by_loop, join_by_test, join_by_keys, joined, may_be_joined}
 use Rattle.gx_rule_laws.specs.KeepingSoundness.{StandsInPlan, plan_rule_setting}
 use Rattle.gx_rule_laws.specs.QuietValues.{carried_types, plan_setting, HasValueInPlace}
 use Rattle.gx_rule_laws.specs.FairJoins.{is_number_value, is_text_value, IsKeyOf, AreFairKeys, HasFairJoins}
@@ -35,7 +33,7 @@ use Rattle.gx_rule_laws.proofs.QuietExpressions.{quiet_expressions_have_values}
 use Rattle.gx_rule_laws.proofs.Rewriting.{none_typed_behind}
 use Rattle.gx_rule_laws.proofs.SlashesStand.{over_source}
 use Rattle.gx_rule_laws.proofs.SoundParts.{kind_of}
-use Rattle.gx_rule_laws.proofs.FairRules.{both_true, keys_compare, number_so, text_so, is_key, quiet_so, let_fair, order_fair, body_fair, branch_fair, descends_fair, source_fair}
+use Rattle.gx_rule_laws.proofs.FairRules.{keys_compare, number_so, text_so, is_key, quiet_so, let_fair, order_fair, body_fair, branch_fair, descends_fair, source_fair}
 
 -- a loop without position
 abbrev loop_over : (place outer : Place) → Carried → Binder → (source body : PlanExpression) → PlanExpression

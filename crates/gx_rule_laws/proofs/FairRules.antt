@@ -1,55 +1,41 @@
 -- Rules hand on that joins are fair, and make fair joins.
-use Rattle.std.proofs.Common.{◌≡◌, ◌≢◌, ◌⊎◌, inl, inr, ℕ, zero, suc, Bool, true, false, not, ◌&&◌, ◌||◌, nat_eq, Option, None, Some, List, [], ◌∷◌, ◌++◌, refl, sym, ◌∙◌, ap, subst, if◌then◌else◌}
+use Rattle.std.proofs.Common.{◌≡◌, ◌≢◌, ◌⊎◌, inl, inr, ℕ, zero, suc, Bool, true, false, ◌&&◌, ◌||◌, None, Some, List, [], ◌∷◌, ◌++◌, refl, sym, ◌∙◌, ap, subst}
 use Rattle.std.specs.List.{list_all}
 use Rattle.std.proofs.lemmas.Bool.{and_parts}
 use Rattle.gx_base.specs.declared.place.Place.{Place}
-use Rattle.gx_base.specs.declared.type_name.Builtin.TheVariants as builtins
 use Rattle.gx_facets.specs.declared.AtomValue.{AtomValue}
 use Rattle.gx_facets.specs.declared.AtomValue.TheVariants as values
 use Rattle.gx_types.specs.declared.item_type.ItemType.{ItemType}
-use Rattle.gx_types.specs.declared.step.Axis.TheVariants as axes
 use Rattle.gx_types.specs.declared.step.Test.{Test}
 use Rattle.gx_types.specs.SchemaSet.{SchemaSet}
 use Rattle.gx_types.specs.SequenceType.{SequenceType, never, nothing, item, both, either, optional, star, plus}
-use Rattle.gx_include.specs.Decision.{is_included}
-use Rattle.gx_funcs.specs.declared.function.Function.TheVariants as functions
-use Rattle.gx_model.specs.Belongs.{Belongs}
 use Rattle.gx_model.specs.Forest.{Forest}
-use Rattle.gx_model.specs.Item.{Item, atom, Items}
-use Rattle.gx_core.specs.declared.cases.TypeCase.{TypeCase}
+use Rattle.gx_model.specs.Item.{Items}
 use Rattle.gx_core.specs.declared.expression.Binder.{Binder}
-use Rattle.gx_core.specs.declared.expression.BinaryOp.TheVariants as binary
 use Rattle.gx_core.specs.declared.operator.Operator.{Operator}
 use Rattle.gx_core.specs.declared.operator.Operator.TheVariants as operators
 use Rattle.gx_core.specs.declared.signature.FunctionSignature.{FunctionSignature}
 use Rattle.gx_core.specs.Bindings.{Types, look_up, position_numbers}
-use Rattle.gx_core.specs.Expression.{At, no_parts, a_part, one_part, two_parts, three_parts, annotation_of}
-use Rattle.gx_core.specs.Meaning.{CallOutcomes, Context, meaning}
+use Rattle.gx_core.specs.Expression.{At, no_parts, a_part, one_part, two_parts}
+use Rattle.gx_core.specs.Meaning.{CallOutcomes}
 use Rattle.gx_core.specs.Outcome.{Outcome, gives, raises, wrong}
-use Rattle.gx_core.specs.Soundness.{Setting, context_of, Keeps, Situation}
-use Rattle.gx_core.proofs.SoundQueries.{keeps_its_type}
+use Rattle.gx_core.specs.Soundness.{Setting, Keeps}
 use Rattle.gx_static.specs.declared.comparison.Family.{Family}
 use Rattle.gx_static.specs.declared.comparison.Family.TheVariants as families
-use Rattle.gx_static.specs.Rule.{atomic, all_items, is_at_most_one, is_of_family, are_of_family}
-use Rattle.gx_static.proofs.Families.{is_value_of, IsAtomSo, family_met}
+use Rattle.gx_static.specs.Rule.{all_items, is_of_family, are_of_family}
+use Rattle.gx_static.proofs.Families.{is_value_of, family_met}
 use Rattle.gx_static.proofs.ItemLemmas.{EachItem, Meets, items_meet}
-use Rattle.gx_plan.specs.declared.plan.Role.{Role}
-use Rattle.gx_plan.specs.declared.plan.Role.TheVariants as roles
 use Rattle.gx_plan.specs.declared.plan.Carried.{Carried}
-use Rattle.gx_plan.specs.Plan.{PlanExpression, kind_carried, typed_expression}
-use Rattle.gx_rules.specs.Guards.{is_own_role, is_in_join, compare_quietly, are_compared_quietly, is_quiet, is_flat, is_sorted, is_named_in, are_keys_of_one_family}
-use Rattle.gx_rules.specs.Rules.{RuleSetting, Loop, Rule, One, Sorted, Flat, Slashes, Single, Decided, Idle, Joins, applied, any_atomic_values, occurs_once, first_position, with_position, made, made_as, made_let, made_step, binder_of, binds_alone, is_step_to_all_below, with_descendants, descending_from, descending, without_order, in_order, slashes_over, join_by_loop, join_by_test, join_by_keys, joined, may_be_joined}
+use Rattle.gx_plan.specs.Plan.{PlanExpression}
+use Rattle.gx_rules.specs.Guards.{is_own_role, compare_quietly, are_compared_quietly}
+use Rattle.gx_rules.specs.Rules.{first_position, with_position, made, made_let, made_step, binder_of, binds_alone, is_step_to_all_below, with_descendants, descending_from, descending, without_order}
 use Rattle.gx_rule_laws.specs.KeepingSoundness.{StandsInPlan, plan_rule_setting}
-use Rattle.gx_rule_laws.specs.QuietValues.{carried_types, plan_setting, HasValueInPlace}
-use Rattle.gx_rule_laws.specs.FairJoins.{is_number_value, is_text_value, is_atom_so, ValuesPass, IsKeyOf, AreFairKeys, HasFairJoins}
-use Rattle.gx_rule_laws.proofs.GuardLemmas.{met, given_if}
+use Rattle.gx_rule_laws.specs.QuietValues.{carried_types, plan_setting}
+use Rattle.gx_rule_laws.specs.FairJoins.{is_number_value, is_text_value, is_atom_so, ValuesPass, HasFairJoins}
+use Rattle.gx_rule_laws.proofs.GuardLemmas.{met}
 use Rattle.gx_rule_laws.proofs.FairSteps.{joins_there}
 use Rattle.gx_rule_laws.proofs.LetsStand.{same_carried}
-use Rattle.gx_rule_laws.proofs.QuietExpressions.{quiet_expressions_have_values}
-use Rattle.gx_rule_laws.proofs.Rewriting.{none_typed_behind}
 use Rattle.gx_rule_laws.proofs.SingleStands.{swapped}
-use Rattle.gx_rule_laws.proofs.SlashesStand.{IsOrderOf, over_source}
-use Rattle.gx_rule_laws.proofs.SoundParts.{kind_of}
 
 -- ---- keys of one family
 

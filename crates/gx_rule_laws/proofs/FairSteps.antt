@@ -1,25 +1,19 @@
 -- Fair joins stay fair where a part of an operator is rewritten, and in another order of variables.
-use Rattle.std.proofs.Common.{◌≡◌, ◌⊎◌, inl, inr, ℕ, zero, suc, Bool, true, false, Option, None, Some, List, [], ◌∷◌, ◌++◌, map, refl, sym, ◌∙◌, ap, subst}
-use Rattle.gx_base.specs.declared.place.Place.{Place}
+use Rattle.std.proofs.Common.{◌⊎◌, inl, inr, Bool, List, [], ◌∷◌, ◌++◌, sym, subst}
 use Rattle.gx_facets.specs.declared.AtomValue.{AtomValue}
-use Rattle.gx_types.specs.SchemaSet.{SchemaSet}
 use Rattle.gx_types.specs.SequenceType.{SequenceType}
 use Rattle.gx_core.specs.declared.operator.Operator.{Operator}
 use Rattle.gx_core.specs.declared.operator.Operator.TheVariants as operators
-use Rattle.gx_core.specs.declared.signature.FunctionSignature.{FunctionSignature}
-use Rattle.gx_core.specs.Bindings.{Types, numbers_bound_by}
+use Rattle.gx_core.specs.Bindings.{Types}
 use Rattle.gx_core.specs.Expression.{At, Parts, no_parts, a_part, annotation_of}
-use Rattle.gx_core.specs.Meaning.{CallOutcomes, meaning}
-use Rattle.gx_core.specs.Outcome.{Outcome}
-use Rattle.gx_core.specs.Soundness.{Setting, context_of, Fits, Situation}
-use Rattle.gx_model.specs.Item.{Items}
+use Rattle.gx_core.specs.Meaning.{meaning}
+use Rattle.gx_core.specs.Soundness.{Setting, context_of}
 use Rattle.gx_plan.specs.declared.plan.Carried.{Carried}
 use Rattle.gx_plan.specs.Plan.{PlanExpression, typed_expression}
 use Rattle.gx_plan.specs.SameMeaning.{ComesToTheSame}
-use Rattle.gx_rule_laws.specs.QuietValues.{carried_types, plan_setting, GivesInPlace, HasValueInPlace, JoinsCompareInPlace, JoinsInPartsCompareInPlace}
+use Rattle.gx_rule_laws.specs.QuietValues.{GivesInPlace, HasValueInPlace, JoinsCompareInPlace, JoinsInPartsCompareInPlace}
 use Rattle.gx_rule_laws.specs.FairJoins.{is_number_value, is_text_value, ValuesPass, IsKeyOf, AreFairKeys, IsFairOperator, AreJoinsFair, JoinsInPartsAreFair, HasFairJoins}
 use Rattle.gx_rule_laws.proofs.Reordering.{SameTypes, fits_so, same_behind}
-use Rattle.gx_rule_laws.proofs.Rewriting.{units, units_next}
 
 module _ (setting : Setting) where
   -- ---- what comes to the same

@@ -1,5 +1,5 @@
 -- What follows an outcome, where the evaluations that follow it fit.
-use Rattle.std.proofs.Common.{◌≡◌, ℕ, suc, ◌+◌, List, [], ◌∷◌, ◌++◌, length, refl, sym, subst, arith}
+use Rattle.std.proofs.Common.{◌≡◌, ℕ, suc, ◌+◌, List, [], ◌∷◌, ◌++◌, length, refl, subst, arith}
 use Rattle.std.specs.List.{AllByRecursion}
 use Rattle.gx_types.specs.SequenceType.{SequenceType}
 use Rattle.gx_types.specs.Occurrence.{occurrence_of}

@@ -1,5 +1,5 @@
 -- Rules that put an operand in the place of its operator hand on that it stands in the plan.
-use Rattle.std.proofs.Common.{◌≡◌, Some, List, [], ◌∷◌, subst}
+use Rattle.std.proofs.Common.{List, subst}
 use Rattle.gx_base.specs.declared.place.Place.{Place}
 use Rattle.gx_types.specs.SchemaSet.{SchemaSet}
 use Rattle.gx_include.specs.Decision.{is_included}

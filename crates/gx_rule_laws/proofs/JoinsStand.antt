@@ -1,5 +1,5 @@
 -- A join stands in the plan where its loops did.
-use Rattle.std.proofs.Common.{◌≡◌, ℕ, zero, suc, List, [], ◌∷◌, ◌++◌, Some, None, refl, subst}
+use Rattle.std.proofs.Common.{◌≡◌, zero, List, [], ◌∷◌, ◌++◌, Some, None, refl, subst}
 use Rattle.gx_base.specs.declared.place.Place.{Place}
 use Rattle.gx_types.specs.SchemaSet.{SchemaSet}
 use Rattle.gx_core.specs.declared.expression.Binder.{Binder}
@@ -13,7 +13,7 @@ use Rattle.gx_plan.specs.declared.plan.Role.TheVariants as roles
 use Rattle.gx_plan.specs.declared.plan.Carried.{Carried}
 use Rattle.gx_plan.specs.Plan.{PlanExpression, typed_parts}
 use Rattle.gx_rules.specs.Guards.{is_own_role}
-use Rattle.gx_rules.specs.Rules.{Loop, made_as, join_by_loop, join_by_test, join_by_keys, joined, may_be_joined, Joins}
+use Rattle.gx_rules.specs.Rules.{made_as, join_by_loop, join_by_test, join_by_keys, joined, may_be_joined, Joins}
 use Rattle.gx_rule_laws.specs.QuietValues.{carried_types}
 use Rattle.gx_rule_laws.specs.KeepingSoundness.{StandsInPlan, RuleHandsOn}
 use Rattle.gx_rule_laws.proofs.GuardLemmas.{met, given_if}

@@ -1,12 +1,10 @@
 -- A `let` that a rule makes stands in the plan where its value and its body do.
-use Rattle.std.proofs.Common.{◌≡◌, ℕ, zero, suc, nat_eq, Bool, true, false, Option, None, Some, List, [], ◌∷◌, ◌++◌, take, refl, sym, ◌∙◌, ap, subst, if◌then◌else◌}
+use Rattle.std.proofs.Common.{◌≡◌, ℕ, zero, suc, nat_eq, Bool, true, false, Option, None, Some, List, [], ◌∷◌, ◌++◌, refl, sym, ◌∙◌, ap, subst, if◌then◌else◌}
 use Rattle.std.specs.List.{AllByRecursion}
 use Rattle.std.proofs.lemmas.Bool.{eqb-true}
 use Rattle.gx_base.specs.declared.place.Place.{Place}
 use Rattle.gx_types.specs.SchemaSet.{SchemaSet}
-use Rattle.gx_types.specs.SchemaInvariant.{IsSchemaSet}
 use Rattle.gx_types.specs.SequenceType.{SequenceType}
-use Rattle.gx_model.specs.Belongs.{Belongs}
 use Rattle.gx_model.specs.Forest.{Forest}
 use Rattle.gx_model.specs.Item.{Items}
 use Rattle.gx_model.proofs.PublicLaws.{growth_is_an_order}
@@ -14,14 +12,14 @@ use Rattle.gx_core.specs.declared.expression.Binder.{Binder}
 use Rattle.gx_core.specs.declared.operator.Operator.TheVariants as operators
 use Rattle.gx_core.specs.declared.signature.FunctionSignature.{FunctionSignature}
 use Rattle.gx_core.specs.Bindings.{Types, look_up, position_bound, position_numbers}
-use Rattle.gx_core.specs.Evaluations.{PartEvaluation, evaluation_of_part, evaluations_after}
-use Rattle.gx_core.specs.Expression.{At, Parts, no_parts, a_part, two_parts, each_of, annotation_of}
-use Rattle.gx_core.specs.Meaning.{CallOutcomes, Context, Bindings, denoted, meaning}
+use Rattle.gx_core.specs.Evaluations.{evaluation_of_part, evaluations_after}
+use Rattle.gx_core.specs.Expression.{two_parts, annotation_of}
+use Rattle.gx_core.specs.Meaning.{CallOutcomes, Context, Bindings, meaning}
 use Rattle.gx_core.specs.Outcome.{Outcome, gives, raises, wrong, after}
 use Rattle.gx_core.specs.Soundness.{Setting, context_of, IsOfType, Keeps, IsBoundTo, Fits, Situation}
 use Rattle.gx_core.proofs.KeptFacts.{calls_keep_still}
 use Rattle.gx_core.proofs.SoundQueries.{keeps_its_type}
-use Rattle.gx_static.specs.Rule.{has_type, is_as_written, let_rule}
+use Rattle.gx_static.specs.Rule.{is_as_written, let_rule}
 use Rattle.gx_static.proofs.Keeping.{type_so}
 use Rattle.gx_plan.specs.Plan.{PlanExpression, kind_carried, typed_expression, typed_parts}
 use Rattle.gx_plan.specs.Fitting.{FitsAt, BindsWell}

@@ -40,3 +40,4 @@ pub mod FairSteps
 pub mod FairRules
 pub mod FairMaking
 pub mod FairRewriting
+pub mod FairPlans

@@ -1,21 +1,19 @@
 -- A loop without position that a rule makes stands in the plan where its source and its body do.
-use Rattle.std.proofs.Common.{◌≡◌, ◌≢◌, ℕ, zero, suc, Bool, List, [], ◌∷◌, ◌++◌, take, map, refl, sym, ◌∙◌, ap, subst}
-use Rattle.std.specs.List.{AllByRecursion}
+use Rattle.std.proofs.Common.{◌≢◌, ℕ, zero, List, [], ◌∷◌, ◌++◌, refl, subst}
 use Rattle.gx_base.specs.declared.place.Place.{Place}
 use Rattle.gx_types.specs.Occurrence.{occurrence_of}
 use Rattle.gx_types.specs.Prime.{prime_of}
 use Rattle.gx_types.specs.TypeRules.{times_of}
 use Rattle.gx_types.specs.SchemaSet.{SchemaSet}
 use Rattle.gx_types.specs.SequenceType.{SequenceType}
-use Rattle.gx_model.specs.Forest.{Forest}
 use Rattle.gx_model.specs.Item.{Item, Items}
 use Rattle.gx_core.specs.declared.expression.Binder.{Binder}
 use Rattle.gx_core.specs.declared.operator.Operator.TheVariants as operators
 use Rattle.gx_core.specs.declared.signature.FunctionSignature.{FunctionSignature}
-use Rattle.gx_core.specs.Bindings.{Types, look_up}
-use Rattle.gx_core.specs.Evaluations.{PartEvaluation, evaluation_of_part, turn_evaluations}
-use Rattle.gx_core.specs.Expression.{At, two_parts, annotation_of}
-use Rattle.gx_core.specs.Meaning.{CallOutcomes, Context, Bindings, Denotation, for_each, item_bound, meaning}
+use Rattle.gx_core.specs.Bindings.{Types}
+use Rattle.gx_core.specs.Evaluations.{PartEvaluation, turn_evaluations}
+use Rattle.gx_core.specs.Expression.{two_parts, annotation_of}
+use Rattle.gx_core.specs.Meaning.{CallOutcomes, Context, Bindings, for_each, item_bound, meaning}
 use Rattle.gx_core.specs.Outcome.{Outcome, after}
 use Rattle.gx_core.specs.Soundness.{Setting, context_of, IsOfType, Keeps, Situation}
 use Rattle.gx_core.proofs.KeptFacts.{calls_keep_still}

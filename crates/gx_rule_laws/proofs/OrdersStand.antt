@@ -1,5 +1,5 @@
 -- An order that a rule makes stands in the plan where it comes to what another expression comes to.
-use Rattle.std.proofs.Common.{◌≡◌, List, [], ◌∷◌, ◌++◌, refl, sym, ◌∙◌, ap, subst}
+use Rattle.std.proofs.Common.{◌≡◌, List, [], ◌∷◌, sym, subst}
 use Rattle.std.specs.List.{AllByRecursion}
 use Rattle.gx_base.specs.declared.place.Place.{Place}
 use Rattle.gx_types.specs.SchemaSet.{SchemaSet}
@@ -11,11 +11,11 @@ use Rattle.gx_core.specs.declared.operator.Operator.TheVariants as operators
 use Rattle.gx_core.specs.declared.signature.FunctionSignature.{FunctionSignature}
 use Rattle.gx_core.specs.Bindings.{Types}
 use Rattle.gx_core.specs.Evaluations.{evaluations_after}
-use Rattle.gx_core.specs.Expression.{At, one_part, annotation_of}
-use Rattle.gx_core.specs.Meaning.{CallOutcomes, Context, Bindings, Denotation, denoted, meaning}
+use Rattle.gx_core.specs.Expression.{one_part, annotation_of}
+use Rattle.gx_core.specs.Meaning.{CallOutcomes, Context, denoted, meaning}
 use Rattle.gx_core.specs.Outcome.{Outcome, gives, raises, wrong, after}
 use Rattle.gx_core.specs.Paths.{put_in_order}
-use Rattle.gx_core.specs.Soundness.{Setting, context_of, typed_setting, KeepsFact, IsOfType, Keeps, Situation}
+use Rattle.gx_core.specs.Soundness.{Setting, context_of, typed_setting, IsOfType, Keeps, Situation}
 use Rattle.gx_core.proofs.KeptFacts.{fact_after}
 use Rattle.gx_core.proofs.SoundQueries.{keeps_its_type}
 use Rattle.gx_static.specs.Rule.{has_type, order_rule}

@@ -1,5 +1,5 @@
 -- What quiet operators make of values is no error, and leaves the forest as it is.
-use Rattle.std.proofs.Common.{◌≡◌, ℕ, Bool, true, false, ◌||◌, ◌&&◌, List, [], ◌∷◌, ◌++◌, map, Option, None, Some, refl, sym, ◌∙◌, ap, subst, if◌then◌else◌}
+use Rattle.std.proofs.Common.{◌≡◌, Bool, true, false, ◌||◌, ◌&&◌, List, [], ◌∷◌, ◌++◌, map, refl, if◌then◌else◌}
 use Rattle.std.specs.List.{list_all, list_any}
 use Rattle.gx_types.specs.declared.step.Axis.{Axis}
 use Rattle.gx_types.specs.declared.step.Test.{Test}
@@ -21,13 +21,13 @@ use Rattle.gx_core.specs.declared.expression.NodeComparison.{NodeComparison}
 use Rattle.gx_core.specs.declared.operator.Operator.{Operator}
 use Rattle.gx_core.specs.declared.operator.Operator.TheVariants as operators
 use Rattle.gx_core.specs.BinaryOperators.{class_of}
-use Rattle.gx_core.specs.Bindings.{look_up, position_bound}
+use Rattle.gx_core.specs.Bindings.{look_up}
 use Rattle.gx_core.specs.Casting.{castable_items}
 use Rattle.gx_core.specs.CombiningNodes.{combined}
 use Rattle.gx_core.specs.Comparing.{truth_value, condition_of, value_of_item, compared_items}
 use Rattle.gx_core.specs.ComparingNodes.{compared_nodes}
 use Rattle.gx_core.specs.Operands.{on_two}
-use Rattle.gx_core.specs.Outcome.{Outcome, gives, raises, wrong, after, given}
+use Rattle.gx_core.specs.Outcome.{Outcome, gives, wrong, after, given}
 use Rattle.gx_core.specs.Paths.{is_node, places_of, stepped, put_in_order}
 use Rattle.gx_core.specs.Meaning.{Context, Bindings, Denotation, binary_meaning, acts, all_of, for_each, item_bound, any_decides, branch, switched, denoted}
 use Rattle.gx_core.specs.Soundness.{AreOfTypes}

@@ -1,16 +1,13 @@
 -- Calls of functions that raise nothing, of arguments that are converted without a cast.
-use Rattle.std.proofs.Common.{◌≡◌, ℕ, Bool, true, false, not, ◌&&◌, ◌||◌, List, [], ◌∷◌, ◌++◌, map, Option, None, Some, Result, Ok, Err, refl, sym, ◌∙◌, ap, subst, if◌then◌else◌}
+use Rattle.std.proofs.Common.{◌≡◌, Bool, true, false, not, ◌&&◌, List, [], ◌∷◌, ◌++◌, map, Option, None, Some, Ok, Err, refl, sym, ap, subst, if◌then◌else◌}
 use Rattle.std.specs.Prelude.{option_map}
 use Rattle.std.proofs.lemmas.Bool.{and_parts}
-use Rattle.gx_base.specs.declared.code.Code.{Code}
-use Rattle.gx_base.specs.declared.type_name.Builtin.{Builtin}
 use Rattle.gx_base.specs.declared.type_name.Builtin.TheVariants as builtins
 use Rattle.gx_base.specs.declared.type_name.TypeName.{TypeName}
 use Rattle.gx_base.specs.declared.type_name.TypeName.TheVariants as names
 use Rattle.gx_facets.specs.declared.Atomic.{Atomic}
 use Rattle.gx_facets.specs.declared.AtomValue.{AtomValue}
 use Rattle.gx_facets.specs.declared.AtomValue.TheVariants as values
-use Rattle.gx_num.specs.declared.Number.{Number}
 use Rattle.gx_types.specs.Derivation.{DerivesFrom}
 use Rattle.gx_types.specs.SchemaSet.{SchemaSet}
 use Rattle.gx_types.specs.SchemaInvariant.{IsSchemaSet}
@@ -23,14 +20,13 @@ use Rattle.gx_funcs.specs.declared.function.Function.TheVariants as functions
 use Rattle.gx_funcs.specs.declared.function.Parameter.{Parameter}
 use Rattle.gx_funcs.specs.declared.function.ParameterType.{ParameterType}
 use Rattle.gx_funcs.specs.declared.function.ParameterType.TheVariants as parameters
-use Rattle.gx_funcs.specs.declared.function.Conversion.{Conversion}
-use Rattle.gx_funcs.specs.declared.function.Conversion.TheVariants.{Nothing, Data, DataAndCast}
+use Rattle.gx_funcs.specs.declared.function.Conversion.TheVariants.{DataAndCast}
 use Rattle.gx_funcs.specs.declared.text_function.TextFunction.{TextFunction}
 use Rattle.gx_funcs.specs.declared.value_function.ValueFunction.{ValueFunction}
 use Rattle.gx_funcs.specs.declared.value_function.ValueFunction.TheVariants as value_functions
 use Rattle.gx_funcs.specs.declared.item_function.ItemFunction.{ItemFunction}
 use Rattle.gx_funcs.specs.declared.item_function.ItemFunction.TheVariants as item_functions
-use Rattle.gx_funcs.specs.Function.{ItemView, effective_boolean, string_of_items, one_answer, truth_atom, string_atom, applied, text_function_of, value_function_of, item_function_of, value_parameters_of, item_parameters_of, parameters_of, conversion_of}
+use Rattle.gx_funcs.specs.Function.{ItemView, effective_boolean, string_of_items, one_answer, truth_atom, string_atom, applied, value_parameters_of, item_parameters_of, parameters_of, conversion_of}
 use Rattle.gx_funcs.specs.Numbers.{numbers_of_values, foremost_of}
 use Rattle.gx_funcs.specs.Positions.{from_position, so_many_from, without_position, inserted_before}
 use Rattle.gx_funcs.specs.Strings.{Nfc, codepoints_of, normalized_as}
@@ -40,21 +36,21 @@ use Rattle.gx_model.specs.Atomization.{atomized}
 use Rattle.gx_model.specs.Belongs.{ValueFits, Belongs}
 use Rattle.gx_model.specs.Forest.{Forest}
 use Rattle.gx_model.specs.Honest.{IsHonest}
-use Rattle.gx_model.specs.Item.{Item, atom, node, Items}
+use Rattle.gx_model.specs.Item.{Item, atom, Items}
 use Rattle.gx_core.specs.Arguments.{argument_by, arguments_by, argument_values, all_argument_values}
-use Rattle.gx_core.specs.Calling.{views_of, answered, all_argument_texts, called_as, called}
+use Rattle.gx_core.specs.Calling.{views_of, answered, all_argument_texts, called}
 use Rattle.gx_core.specs.Casting.{cast_outcome}
 use Rattle.gx_core.specs.Comparing.{atoms_among}
 use Rattle.gx_core.specs.Converting.{is_untyped, is_any_atomic_type, item_converted, items_converted, converted_to}
 use Rattle.gx_core.specs.ItemCalling.{lexical_name, name_of_items, roots_of_items, number_of_items, integer_of_items, string_item, item_answer}
-use Rattle.gx_core.specs.Outcome.{Outcome, gives, raises, wrong, after, given}
+use Rattle.gx_core.specs.Outcome.{gives, after, given}
 use Rattle.gx_core.specs.Soundness.{AreOfTypes}
 use Rattle.gx_static.specs.Rule.{is_atomic_in, all_items}
 use Rattle.gx_steptype.proofs.DataTypes.{data_keeps_its_type}
 use Rattle.gx_static.proofs.ItemLemmas.{EachItem, IsAtomIn, items_are_in}
 use Rattle.gx_static.proofs.LiteralLemmas.{untyped_is_no_number, from_integer_is_a_number}
-use Rattle.gx_rules.specs.Guards.{is_quiet_value_function, is_quiet_item_function, is_quiet_function, is_string, is_converted_quietly, are_converted_quietly}
-use Rattle.gx_rule_laws.proofs.QuietOperators.{IsQuiet, quiet_after, quiet_given, quiet_choice}
+use Rattle.gx_rules.specs.Guards.{is_quiet_value_function, is_quiet_item_function, is_quiet_function, is_converted_quietly, are_converted_quietly}
+use Rattle.gx_rule_laws.proofs.QuietOperators.{IsQuiet, quiet_after, quiet_given}
 
 -- ---- conversions
 

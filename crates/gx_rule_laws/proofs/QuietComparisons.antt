@@ -1,6 +1,6 @@
 -- General comparisons of items that are of one family in pairs: none of them has to cast.
-use Rattle.std.proofs.Common.{◌≡◌, ◌⊎◌, inl, inr, Bool, true, false, ◌||◌, ◌&&◌, List, [], ◌∷◌, ◌++◌, map, Option, None, Some, Result, Ok, Err, refl, sym, ◌∙◌, ap, subst, if◌then◌else◌}
-use Rattle.std.specs.Prelude.{flat_map, find, unwrap_or, option_map}
+use Rattle.std.proofs.Common.{◌≡◌, Bool, true, false, ◌||◌, ◌&&◌, List, [], ◌∷◌, ◌++◌, map, Option, None, Some, Ok, Err, refl, sym, ◌∙◌, ap, subst, if◌then◌else◌}
+use Rattle.std.specs.Prelude.{find, unwrap_or, option_map}
 use Rattle.gx_facets.specs.declared.Atomic.{Atomic}
 use Rattle.gx_facets.specs.declared.AtomValue.{AtomValue}
 use Rattle.gx_facets.specs.declared.AtomValue.TheVariants as values
@@ -8,18 +8,18 @@ use Rattle.gx_types.specs.declared.item_type.ItemType.{ItemType}
 use Rattle.gx_types.specs.SchemaSet.{SchemaSet}
 use Rattle.gx_types.specs.SequenceType.{SequenceType}
 use Rattle.gx_atomic.specs.declared.comparison.Op.{Op}
-use Rattle.gx_atomic.specs.Comparison.{Decision, value_comparison, facing, comparison_of_casts, pair_comparison, pairs_of, pair_decision, is_decisive, first_decision, general_comparison}
+use Rattle.gx_atomic.specs.Comparison.{Decision, value_comparison, pair_comparison, pairs_of, pair_decision, is_decisive, first_decision, general_comparison}
 use Rattle.gx_model.specs.Belongs.{Belongs}
 use Rattle.gx_model.specs.Forest.{Forest}
-use Rattle.gx_model.specs.Item.{Item, atom, node, Items, atoms}
+use Rattle.gx_model.specs.Item.{Item, atom, Items, atoms}
 use Rattle.gx_core.specs.Comparing.{decided, atoms_among, generally_compared}
-use Rattle.gx_core.specs.Outcome.{Outcome, gives, raises, wrong, given}
+use Rattle.gx_core.specs.Outcome.{given}
 use Rattle.gx_static.specs.declared.comparison.Family.{Family}
 use Rattle.gx_static.specs.declared.comparison.Family.TheVariants as families
 use Rattle.gx_static.specs.Rule.{all_items, is_of_family}
 use Rattle.gx_model.proofs.ListLemmas.{map_appended}
 use Rattle.gx_static.proofs.Comparisons.{atoms_are_among}
-use Rattle.gx_static.proofs.Families.{is_value_of, IsAtomSo, family_item}
+use Rattle.gx_static.proofs.Families.{is_value_of, family_item}
 use Rattle.gx_static.proofs.ItemLemmas.{EachItem, IsAtom, Meets, items_meet}
 use Rattle.std.proofs.lemmas.Bool.{and_parts}
 use Rattle.gx_rules.specs.Guards.{compare_quietly, are_compared_quietly}

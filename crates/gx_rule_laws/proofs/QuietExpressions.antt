@@ -1,5 +1,5 @@
 -- Expressions that raise no error and make no node have a value, and leave the forest as it is.
-use Rattle.std.proofs.Common.{◌≡◌, ℕ, Bool, true, false, ◌&&◌, List, [], ◌∷◌, ◌++◌, map, Option, None, Some, refl, sym, ◌∙◌, ap, subst}
+use Rattle.std.proofs.Common.{◌≡◌, Bool, true, false, List, [], ◌∷◌, ◌++◌, map, refl, sym, ◌∙◌, ap, subst}
 use Rattle.std.proofs.lemmas.Bool.{and_parts}
 use Rattle.gx_base.specs.declared.place.Place.{Place}
 use Rattle.gx_types.specs.SchemaSet.{SchemaSet}
@@ -8,12 +8,11 @@ use Rattle.gx_types.specs.SequenceType.{SequenceType}
 use Rattle.gx_model.specs.Belongs.{Belongs}
 use Rattle.gx_model.specs.Forest.{Forest}
 use Rattle.gx_model.specs.Item.{Items}
-use Rattle.gx_model.specs.Growth.{Extends}
 use Rattle.gx_core.specs.declared.operator.Operator.{Operator}
 use Rattle.gx_core.specs.declared.operator.Operator.TheVariants as operators
 use Rattle.gx_core.specs.declared.signature.FunctionSignature.{FunctionSignature}
 use Rattle.gx_core.specs.Bindings.{Types}
-use Rattle.gx_core.specs.Expression.{At, Parts, no_parts, a_part, each_of, annotation_of}
+use Rattle.gx_core.specs.Expression.{At, Parts, no_parts, a_part, annotation_of}
 use Rattle.gx_core.specs.Outcome.{Outcome, gives, raises, wrong, after}
 use Rattle.gx_core.specs.Meaning.{CallOutcomes, Context, Bindings, Denotation, acts, all_of, denoted, meaning, meanings}
 use Rattle.gx_core.specs.Soundness.{Setting, context_of, AreOfTypes, Keeps, Situation, IsSound, PartsAreSound}

@@ -1,5 +1,5 @@
 -- Operators that choose, bind or repeat raise nothing where their parts raise nothing, and leave the forest as it is where these do.
-use Rattle.std.proofs.Common.{◌≡◌, ℕ, zero, suc, length, drop, Bool, true, false, not, List, [], ◌∷◌, ◌++◌, map, Option, None, Some, refl, sym, subst, if◌then◌else◌}
+use Rattle.std.proofs.Common.{◌≡◌, ℕ, zero, suc, length, drop, Bool, true, false, List, [], ◌∷◌, ◌++◌, map, Option, None, Some, refl, sym, subst, if◌then◌else◌}
 use Rattle.gx_types.specs.SchemaSet.{SchemaSet}
 use Rattle.gx_model.specs.Forest.{Forest}
 use Rattle.gx_model.specs.Item.{Item, Items}
@@ -12,7 +12,7 @@ use Rattle.gx_core.specs.Blocks.{Tuple, key_of, tuple_keys, tuples_of_each, tupl
 use Rattle.gx_core.specs.Comparing.{truth_value, condition_of}
 use Rattle.gx_core.specs.Instances.{is_instance}
 use Rattle.gx_core.specs.Outcome.{Outcome, gives, raises, wrong, after, given}
-use Rattle.gx_core.specs.Meaning.{Context, Bindings, Denotation, all_of, for_each, item_bound, decides, any_decides, branch, switched}
+use Rattle.gx_core.specs.Meaning.{Bindings, Denotation, all_of, for_each, item_bound, decides, any_decides, branch, switched}
 
 -- an outcome that is no error; the forest stays as it is
 abbrev pub IsQuiet : {R : Type 0} → Forest → Outcome R → Type 0

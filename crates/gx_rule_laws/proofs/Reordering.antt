@@ -1,11 +1,10 @@
 -- An expression stands where variables have the same types in another order.
-use Rattle.std.proofs.Common.{◌≡◌, ℕ, Bool, true, false, nat_eq, Option, None, Some, List, [], ◌∷◌, ◌++◌, take, refl, sym, ◌∙◌, ap, subst, if◌then◌else◌}
-use Rattle.std.specs.List.{AllByRecursion}
+use Rattle.std.proofs.Common.{◌≡◌, ℕ, nat_eq, Option, Some, List, [], ◌∷◌, ◌++◌, take, sym, ◌∙◌, ap, if◌then◌else◌}
 use Rattle.gx_types.specs.SequenceType.{SequenceType}
 use Rattle.gx_model.specs.Forest.{Forest}
 use Rattle.gx_core.specs.declared.operator.Operator.{Operator}
 use Rattle.gx_core.specs.Bindings.{Types, look_up}
-use Rattle.gx_core.specs.Evaluations.{PartEvaluation, evaluations}
+use Rattle.gx_core.specs.Evaluations.{evaluations}
 use Rattle.gx_core.specs.Expression.{At, Parts, no_parts, a_part, each_of, annotation_of}
 use Rattle.gx_core.specs.Meaning.{Bindings, meanings}
 use Rattle.gx_core.specs.Soundness.{TypedExpression, Setting, context_of, Fits, Situation, IsSound, PartsAreSound}

@@ -1,32 +1,31 @@
 -- Applications of rules inside an expression, and any number of them.
-use Rattle.std.proofs.Common.{◌≡◌, ℕ, zero, suc, nat_eq, Bool, true, false, ◌⊎◌, inl, inr, Option, None, Some, List, [], ◌∷◌, ◌++◌, map, take, refl, sym, ◌∙◌, ap, subst, if◌then◌else◌}
+use Rattle.std.proofs.Common.{◌≡◌, ℕ, zero, suc, nat_eq, Bool, true, false, inl, inr, Option, None, Some, List, [], ◌∷◌, ◌++◌, map, take, refl, sym, ◌∙◌, ap, subst, if◌then◌else◌}
 use Rattle.std.specs.List.{AllByRecursion}
-use Rattle.std.proofs.lemmas.Bool.{eqb-true, true≢false}
+use Rattle.std.proofs.lemmas.Bool.{eqb-true}
 use Rattle.gx_base.specs.declared.place.Place.{Place}
 use Rattle.gx_types.specs.SchemaSet.{SchemaSet}
 use Rattle.gx_types.specs.SchemaInvariant.{IsSchemaSet}
 use Rattle.gx_types.specs.SequenceType.{SequenceType}
 use Rattle.gx_model.specs.Forest.{Forest}
 use Rattle.gx_model.specs.Item.{Items}
-use Rattle.gx_model.specs.Growth.{Extends}
 use Rattle.gx_model.proofs.ListLemmas.{map_appended}
 use Rattle.gx_core.specs.declared.operator.Operator.{Operator}
 use Rattle.gx_core.specs.declared.signature.FunctionSignature.{FunctionSignature}
 use Rattle.gx_core.specs.Bindings.{Types, look_up, numbers_bound_by}
-use Rattle.gx_core.specs.Evaluations.{PartEvaluation, evaluations}
+use Rattle.gx_core.specs.Evaluations.{evaluations}
 use Rattle.gx_core.specs.Expression.{At, Parts, no_parts, a_part, each_of, annotation_of}
-use Rattle.gx_core.specs.Meaning.{CallOutcomes, Context, denoted, meaning, meanings}
+use Rattle.gx_core.specs.Meaning.{CallOutcomes, Context, denoted, meanings}
 use Rattle.gx_core.specs.Outcome.{Outcome}
 use Rattle.gx_core.specs.Soundness.{Setting, context_of, Fits, Keeps, Situation, IsSound, PartsAreSound}
 use Rattle.gx_plan.specs.declared.plan.Carried.{Carried}
 use Rattle.gx_plan.specs.Plan.{PlanExpression, typed_expression, typed_parts}
 use Rattle.gx_plan.specs.Fitting.{FitsAt, BindsWell, IsWellBound, PartsAreWellBound}
-use Rattle.gx_plan.specs.SameMeaning.{ComesToTheSame, PartsComeToTheSameFrom}
+use Rattle.gx_plan.specs.SameMeaning.{PartsComeToTheSameFrom}
 use Rattle.gx_plan.proofs.ReplacingParts.{well_bound_parts_may_be_replaced}
-use Rattle.gx_rules.specs.Rules.{RuleSetting, Rule, One, Sorted, Flat, Slashes, Single, Decided, Idle, Joins}
-use Rattle.gx_rules.specs.Normal.{Applies, StepsTo, PartStepsTo, ReachesIn, Reaches}
-use Rattle.gx_rule_laws.specs.KeepingRules.{AreRegular, StandsWell, KeepsWhereApplied, HasOneBoolean}
-use Rattle.gx_rule_laws.specs.QuietValues.{with_carried, carried_types, carried_binders, plan_setting}
+use Rattle.gx_rules.specs.Rules.{Rule, One, Sorted, Flat, Slashes, Single, Decided, Idle, Joins}
+use Rattle.gx_rules.specs.Normal.{StepsTo, PartStepsTo, ReachesIn, Reaches}
+use Rattle.gx_rule_laws.specs.KeepingRules.{AreRegular, KeepsWhereApplied, HasOneBoolean}
+use Rattle.gx_rule_laws.specs.QuietValues.{with_carried, carried_types, plan_setting}
 use Rattle.gx_rule_laws.specs.KeepingSoundness.{PartsCountByIntegers, StandsInPlan, plan_rule_setting, RuleHandsOn, IsRewrittenWell}
 use Rattle.gx_rule_laws.proofs.Ones.{one_keeps}
 use Rattle.gx_rule_laws.proofs.SortedOperands.{sorted_keeps}

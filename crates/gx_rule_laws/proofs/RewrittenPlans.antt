@@ -1,20 +1,18 @@
 -- A rewritten plan has the outcome of the plan given.
-use Rattle.std.proofs.Common.{◌≡◌, ◌⊎◌, inl, inr, ℕ, zero, suc, List, [], ◌∷◌, ◌++◌, map, None, Some, refl, sym, ◌∙◌, ap, subst}
+use Rattle.std.proofs.Common.{◌≡◌, inl, inr, ℕ, zero, suc, List, [], ◌∷◌, ◌++◌, map, None, Some, refl, sym, ◌∙◌, subst}
 use Rattle.gx_types.specs.SchemaSet.{SchemaSet}
 use Rattle.gx_types.specs.SchemaInvariant.{IsSchemaSet}
 use Rattle.gx_core.specs.declared.expression.Declaration.{Declaration}
 use Rattle.gx_core.specs.declared.expression.Declaration.TheVariants.{Global, Function}
-use Rattle.gx_core.specs.declared.signature.FunctionSignature.{FunctionSignature}
 use Rattle.gx_core.specs.Queries.{TypedFunction}
 use Rattle.gx_core.specs.Bindings.{Types, look_up}
-use Rattle.gx_core.specs.Meaning.{CallOutcomes, Context, meaning}
 use Rattle.gx_core.specs.QueryMeaning.{global_types, types_declared, functions_declared}
-use Rattle.gx_core.specs.Soundness.{Setting, calling_setting, context_of, Situation}
+use Rattle.gx_core.specs.Soundness.{Setting, context_of}
 use Rattle.gx_plan.specs.declared.plan.Carried.{Carried}
 use Rattle.gx_plan.specs.Plan.{PlanExpression, PlanQuery, typed_expression, typed_declaration, typed_query}
 use Rattle.gx_plan.specs.FullSoundness.{body_types, IsFullySound, DeclarationsAreFullySound}
 use Rattle.gx_plan.specs.StandingFor.{IsSameExpression}
-use Rattle.gx_plan.specs.SameQueries.{AreSameDeclarations, IsSameQuery}
+use Rattle.gx_plan.specs.SameQueries.{AreSameDeclarations}
 use Rattle.gx_plan.proofs.SameOutcomes.{same_queries_have_the_outcome}
 use Rattle.gx_plan.proofs.TypedPlans.{plans_mean_their_typed_core, plans_have_the_outcome_of_their_typed_core}
 use Rattle.gx_rules.specs.Rules.{RuleSetting}
@@ -33,14 +31,14 @@ nothing_done setting e = record { applications = zero; reached = refl }
 done_first : (setting : RuleSetting) (e next other : PlanExpression) → StepsTo setting e next → Reaches setting next other → Reaches setting e other
 done_first setting e next other steps reaches = record { applications = suc reaches.applications; reached = (next, steps, reaches.reached) }
 
-abbrev ReachesDeclaration : RuleSetting → Declaration Carried → Declaration Carried → Type 0
+abbrev pub ReachesDeclaration : RuleSetting → Declaration Carried → Declaration Carried → Type 0
 ReachesDeclaration setting (Global name binder (Some value)) (Global other_name other_binder (Some other)) = (other_binder ≡ binder) × Reaches setting value other
 ReachesDeclaration setting (Global name binder None) (Global other_name other_binder None) = other_binder ≡ binder
 ReachesDeclaration setting (Function function) (Function other) =
     (other.parameters ≡ function.parameters) × ((other.result ≡ function.result) × Reaches setting function.body other.body)
 ReachesDeclaration setting _ _ = ⊥
 
-abbrev ReachesDeclarations : RuleSetting → List (Declaration Carried) → List (Declaration Carried) → Type 0
+abbrev pub ReachesDeclarations : RuleSetting → List (Declaration Carried) → List (Declaration Carried) → Type 0
 ReachesDeclarations setting [] [] = Unit {0}
 ReachesDeclarations setting (d ∷ ds) (e ∷ es) = ReachesDeclaration setting d e × ReachesDeclarations setting ds es
 ReachesDeclarations setting _ _ = ⊥
@@ -86,9 +84,9 @@ declarations_first setting (d ∷ ds) next (o ∷ os) (inr (es, is, steps)) reac
     let r = subst (λ (ns : List (Declaration Carried)). ReachesDeclarations setting ns (o ∷ os)) is reaches in
     (r.0, declarations_first setting ds es os steps r.1)
 
-record ReachesParts (setting : RuleSetting) (plan other : PlanQuery) : Type 0 where
-  declarations : ReachesDeclarations setting plan.declarations other.declarations
-  body : Reaches setting plan.body other.body
+pub record ReachesParts (setting : RuleSetting) (plan other : PlanQuery) : Type 0 where
+  pub declarations : ReachesDeclarations setting plan.declarations other.declarations
+  pub body : Reaches setting plan.body other.body
 
 parts_first : (setting : RuleSetting) (plan next other : PlanQuery) → QueryStepsTo setting plan next → ReachesParts setting next other → ReachesParts setting plan other
 parts_first setting plan next other (inl (steps, same)) reaches = record {
@@ -100,7 +98,7 @@ parts_first setting plan next other (inr (same, steps)) reaches = record {
   body = done_first setting plan.body next.body other.body steps reaches.body;
 }
 
-parts_reached : (setting : RuleSetting) (applications : ℕ) (plan other : PlanQuery) → ReachesIn (QueryStepsTo setting) applications plan other → ReachesParts setting plan other
+pub parts_reached : (setting : RuleSetting) (applications : ℕ) (plan other : PlanQuery) → ReachesIn (QueryStepsTo setting) applications plan other → ReachesParts setting plan other
 parts_reached setting zero plan other same =
     subst (λ (o : PlanQuery). ReachesParts setting plan o) same
     (record { declarations = same_declarations setting plan.declarations; body = nothing_done setting plan.body })

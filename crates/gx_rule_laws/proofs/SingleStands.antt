@@ -10,18 +10,16 @@ use Rattle.gx_types.specs.SequenceType.{SequenceType}
 use Rattle.gx_funcs.specs.Function.{integer_atom}
 use Rattle.gx_model.specs.Belongs.{Belongs}
 use Rattle.gx_model.specs.Forest.{Forest}
-use Rattle.gx_model.specs.Growth.{Extends}
 use Rattle.gx_model.specs.Item.{Item, atom, Items}
 use Rattle.gx_model.proofs.PublicLaws.{growth_is_an_order}
-use Rattle.gx_core.specs.declared.expression.Binder.{Binder}
 use Rattle.gx_core.specs.declared.operator.Operator.TheVariants as operators
 use Rattle.gx_core.specs.declared.signature.FunctionSignature.{FunctionSignature}
 use Rattle.gx_core.specs.Bindings.{Types, look_up, position_numbers}
-use Rattle.gx_core.specs.Evaluations.{PartEvaluation, evaluation_of_part, evaluations_after, turn_evaluations}
+use Rattle.gx_core.specs.Evaluations.{evaluations_after, turn_evaluations}
 use Rattle.gx_core.specs.Expression.{At, no_parts, a_part, annotation_of}
 use Rattle.gx_core.specs.Meaning.{CallOutcomes, Context, Bindings, item_bound, meaning}
-use Rattle.gx_core.specs.Outcome.{Outcome, gives}
-use Rattle.gx_core.specs.Soundness.{Setting, context_of, Keeps, IsBoundTo, Fits, Situation}
+use Rattle.gx_core.specs.Outcome.{Outcome}
+use Rattle.gx_core.specs.Soundness.{Setting, context_of, Keeps, IsBoundTo, Fits}
 use Rattle.gx_core.proofs.KeptFacts.{bindings_fit_still, binding_fits}
 use Rattle.gx_core.proofs.SoundQueries.{keeps_its_type}
 use Rattle.gx_static.specs.Rule.{atomic}
@@ -36,7 +34,7 @@ use Rattle.gx_rule_laws.proofs.GuardLemmas.{met}
 use Rattle.gx_rule_laws.proofs.LetsStand.{ValueFits, let_stands}
 use Rattle.gx_rule_laws.proofs.Reordering.{SameTypes, sound_so, bound_so}
 use Rattle.gx_rule_laws.proofs.Rewriting.{none_typed_behind}
-use Rattle.gx_rule_laws.proofs.SingleItems.{IsOneItem, one_item_where}
+use Rattle.gx_rule_laws.proofs.SingleItems.{one_item_where}
 use Rattle.gx_rule_laws.proofs.SoundParts.{kind_of}
 
 -- the literal 1

@@ -1,5 +1,5 @@
 -- The descendants that stand for children of all below stand in the plan where these did.
-use Rattle.std.proofs.Common.{◌≡◌, ◌≢◌, ℕ, zero, suc, Bool, true, false, ◌&&◌, nat_eq, Option, None, Some, List, [], ◌∷◌, ◌++◌, take, map, refl, sym, ◌∙◌, ap, subst, eq-eqb, if◌then◌else◌}
+use Rattle.std.proofs.Common.{◌≡◌, ◌≢◌, ℕ, zero, suc, Bool, true, ◌&&◌, nat_eq, Option, None, Some, List, [], ◌∷◌, ◌++◌, refl, sym, ◌∙◌, ap, subst, eq-eqb, if◌then◌else◌}
 use Rattle.std.specs.List.{AllByRecursion}
 use Rattle.std.proofs.lemmas.Bool.{and_parts, eqb-true}
 use Rattle.gx_base.specs.declared.place.Place.{Place}
@@ -17,11 +17,11 @@ use Rattle.gx_core.specs.declared.operator.Operator.TheVariants as operators
 use Rattle.gx_core.specs.declared.signature.FunctionSignature.{FunctionSignature}
 use Rattle.gx_core.specs.Bindings.{Types, look_up, numbers_bound_by}
 use Rattle.gx_core.specs.Evaluations.{PartEvaluation, evaluation_of_part, evaluations_after, turn_evaluations}
-use Rattle.gx_core.specs.Expression.{At, Parts, no_parts, a_part, one_part, two_parts, annotation_of}
+use Rattle.gx_core.specs.Expression.{At, no_parts, a_part, one_part, two_parts, annotation_of}
 use Rattle.gx_core.specs.Meaning.{CallOutcomes, Context, Bindings, Denotation, item_bound, denoted, meaning}
 use Rattle.gx_core.specs.Outcome.{Outcome, gives, raises, wrong, given}
 use Rattle.gx_core.specs.Paths.{stepped}
-use Rattle.gx_core.specs.Soundness.{Setting, context_of, Keeps, Fits, Situation}
+use Rattle.gx_core.specs.Soundness.{Setting, context_of, Keeps, Fits}
 use Rattle.gx_core.proofs.SoundQueries.{keeps_its_type}
 use Rattle.gx_plan.specs.declared.plan.Role.TheVariants as roles
 use Rattle.gx_plan.specs.declared.plan.Carried.{Carried}
@@ -35,7 +35,7 @@ use Rattle.gx_rule_laws.proofs.GuardLemmas.{met, given_if}
 use Rattle.gx_rule_laws.proofs.Descending.{step_below}
 use Rattle.gx_rule_laws.proofs.SlashedPaths.{slashes_keep}
 use Rattle.gx_rule_laws.proofs.ReplacedParts.{all_so}
-use Rattle.gx_rule_laws.proofs.Rewriting.{units, units_taken, none_typed_behind}
+use Rattle.gx_rule_laws.proofs.Rewriting.{units_taken, none_typed_behind}
 use Rattle.gx_rule_laws.proofs.LetsStand.{let_stands}
 use Rattle.gx_rule_laws.proofs.LoopsStand.{for_stands}
 use Rattle.gx_rule_laws.proofs.OrdersStand.{order_stands}

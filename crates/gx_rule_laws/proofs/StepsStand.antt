@@ -1,12 +1,10 @@
 -- The nodes of a step have shapes, and a step from the node of a variable stands in the plan where another one does.
-use Rattle.std.proofs.Common.{◌≡◌, ℕ, Bool, true, false, ◌&&◌, ◌||◌, nat_eq, cond, List, [], ◌∷◌, ◌++◌, map, filter, Option, None, Some, is_some, refl, sym, ◌∙◌, ap, subst, if◌then◌else◌}
+use Rattle.std.proofs.Common.{◌≡◌, ℕ, Bool, true, false, ◌||◌, List, [], ◌∷◌, map, filter, Option, None, Some, is_some, refl, sym, ◌∙◌, ap, subst, if◌then◌else◌}
 use Rattle.std.specs.Option.{option_map}
 use Rattle.std.proofs.lemmas.Bool.{and_parts}
 use Rattle.gx_base.specs.declared.code.Code.TheVariants.{XPTY0020}
-use Rattle.gx_base.specs.declared.place.Place.{Place}
 use Rattle.gx_types.specs.declared.shape.Shape.{Shape}
 use Rattle.gx_types.specs.declared.step.Axis.{Axis}
-use Rattle.gx_types.specs.declared.step.Axis.TheVariants as axes
 use Rattle.gx_types.specs.declared.step.Test.{Test}
 use Rattle.gx_types.specs.SchemaSet.{SchemaSet}
 use Rattle.gx_types.specs.SchemaInvariant.{IsSchemaSet}
@@ -20,19 +18,17 @@ use Rattle.gx_model.specs.Belongs.{shape_of, HaveShapes, Belongs}
 use Rattle.gx_model.specs.DocumentOrder.{same_node}
 use Rattle.gx_model.specs.Forest.{Forest, PlainNode, node_in}
 use Rattle.gx_model.specs.Honest.{IsHonest}
-use Rattle.gx_model.specs.Item.{Item, Items, atom, node}
+use Rattle.gx_model.specs.Item.{Items, atom, node}
 use Rattle.gx_model.specs.OrderLaws.{Every}
 use Rattle.gx_model.proofs.OrderLemmas.{node_itself}
 use Rattle.gx_model.proofs.Ordering.{is_in, in_filtered, kept_in_order}
 use Rattle.gx_model.proofs.PublicLaws.{growth_is_an_order}
 use Rattle.gx_core.specs.declared.operator.Operator.TheVariants as operators
-use Rattle.gx_core.specs.declared.signature.FunctionSignature.{FunctionSignature}
 use Rattle.gx_core.specs.Bindings.{Types, look_up}
-use Rattle.gx_core.specs.Meaning.{CallOutcomes, Bindings}
-use Rattle.gx_core.specs.Outcome.{Outcome, gives, raises, wrong, given}
+use Rattle.gx_core.specs.Outcome.{given}
 use Rattle.gx_core.specs.Paths.{stepped}
-use Rattle.gx_core.specs.Soundness.{Setting, Keeps, Fits, Situation}
-use Rattle.gx_static.specs.Rule.{has_type, has_none, rule, step_rule}
+use Rattle.gx_core.specs.Soundness.{Setting, Keeps, Situation}
+use Rattle.gx_static.specs.Rule.{has_type, has_none, rule}
 use Rattle.gx_rules.specs.Rules.{type_or_items, step_kinds}
 use Rattle.gx_rule_laws.proofs.InOrder.{AreThere}
 use Rattle.gx_rule_laws.proofs.FlatValues.{axis_in_order, axis_ascends}

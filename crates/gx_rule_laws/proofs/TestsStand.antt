@@ -1,15 +1,14 @@
 -- The test inside a join stands in the plan where that of the loops did.
-use Rattle.std.proofs.Common.{◌≡◌, ◌⊎◌, inl, inr, ℕ, Bool, true, false, ◌&&◌, Option, None, Some, List, [], ◌∷◌, ◌++◌, take, map, refl, sym, ◌∙◌, ap, subst}
+use Rattle.std.proofs.Common.{◌≡◌, inl, inr, Bool, true, false, ◌&&◌, Option, List, [], ◌∷◌, ◌++◌, refl, sym, subst}
 use Rattle.std.specs.List.{AllByRecursion}
 use Rattle.gx_base.specs.declared.place.Place.{Place}
 use Rattle.gx_base.specs.declared.type_name.Builtin.TheVariants.{Boolean}
 use Rattle.gx_types.specs.SchemaSet.{SchemaSet}
-use Rattle.gx_types.specs.SequenceType.{SequenceType, nothing}
+use Rattle.gx_types.specs.SequenceType.{SequenceType}
 use Rattle.gx_types.specs.TypeRules.{choice_of}
 use Rattle.gx_types.proofs.PublicLaws.{choice_takes_members}
 use Rattle.gx_model.specs.Belongs.{Belongs}
 use Rattle.gx_model.specs.Forest.{Forest}
-use Rattle.gx_model.specs.Growth.{Extends}
 use Rattle.gx_model.specs.Honest.{IsHonest}
 use Rattle.gx_model.specs.Item.{Items}
 use Rattle.gx_model.proofs.PublicLaws.{growth_is_an_order}
@@ -20,17 +19,17 @@ use Rattle.gx_core.specs.declared.operator.Operator.TheVariants as operators
 use Rattle.gx_core.specs.declared.signature.FunctionSignature.{FunctionSignature}
 use Rattle.gx_core.specs.Bindings.{Types, numbers_bound_by}
 use Rattle.gx_core.specs.Comparing.{condition_of}
-use Rattle.gx_core.specs.Evaluations.{PartEvaluation, evaluation_of_part, evaluations_given, evaluations, chosen_part}
-use Rattle.gx_core.specs.Expression.{At, Parts, no_parts, a_part, two_parts, three_parts, each_of, annotation_of}
-use Rattle.gx_core.specs.Meaning.{CallOutcomes, Context, Bindings, acts, all_of, branch, denoted, meaning, meanings}
-use Rattle.gx_core.specs.Outcome.{Outcome, gives, raises, wrong, after, given}
+use Rattle.gx_core.specs.Evaluations.{evaluations}
+use Rattle.gx_core.specs.Expression.{At, Parts, no_parts, two_parts, three_parts, each_of, annotation_of}
+use Rattle.gx_core.specs.Meaning.{CallOutcomes, Context, acts, all_of, branch, denoted, meaning, meanings}
+use Rattle.gx_core.specs.Outcome.{Outcome, given}
 use Rattle.gx_core.specs.Soundness.{Setting, context_of, typed_setting, AreOfTypes, IsOfType, Keeps, Fits, Situation}
 use Rattle.gx_core.proofs.KeptFacts.{bindings_fit_still, calls_keep_still, fact_after, operands_keep}
 use Rattle.gx_core.proofs.SoundQueries.{keeps_its_type}
 use Rattle.gx_static.specs.Rule.{has_type, is_at_least_one, is_optional_in, conditional_rule, general_comparison_rule}
 use Rattle.gx_static.proofs.Comparisons.{general_comparison_keeps}
 use Rattle.gx_static.proofs.Conditionals.{one_condition, widened}
-use Rattle.gx_static.proofs.Keeping.{ruled, type_so}
+use Rattle.gx_static.proofs.Keeping.{type_so}
 use Rattle.gx_plan.specs.declared.plan.Role.{Role}
 use Rattle.gx_plan.specs.declared.plan.Carried.{Carried}
 use Rattle.gx_plan.specs.Plan.{PlanExpression, kind_carried, typed_expression, typed_parts}
@@ -39,7 +38,6 @@ use Rattle.gx_rules.specs.Rules.{made_as}
 use Rattle.gx_rule_laws.specs.QuietValues.{carried_types, plan_setting}
 use Rattle.gx_rule_laws.specs.KeepingSoundness.{StandsInPlan}
 use Rattle.gx_rule_laws.proofs.AnyItems.{keeps_ruled}
-use Rattle.gx_rule_laws.proofs.FittingOutcomes.{fits_after}
 use Rattle.gx_rule_laws.proofs.OrdersStand.{keeps_in_plan}
 use Rattle.gx_rule_laws.proofs.ReplacedParts.{all_so}
 use Rattle.gx_rule_laws.proofs.Rewriting.{units, units_taken}

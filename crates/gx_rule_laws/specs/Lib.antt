@@ -3,3 +3,4 @@ pub mod QuietValues
 pub mod KeepingSoundness
 pub mod RewrittenQueries
 pub mod FairJoins
+pub mod FairPlans

@@ -5,6 +5,7 @@ ghost use Rattle.gx_rule_laws.specs.QuietValues.{QuietExpressionsHaveValues};
 ghost use Rattle.gx_rule_laws.specs.KeepingSoundness.{RulesHandOn, RewritingKeeps};
 ghost use Rattle.gx_rule_laws.specs.RewrittenQueries.{RewritingKeepsOutcomes};
 ghost use Rattle.gx_rule_laws.specs.FairJoins.{RewritingKeepsJoinsFair};
+ghost use Rattle.gx_rule_laws.specs.FairPlans.{CompiledPlansHaveNoJoin, RewrittenPlansHaveFairJoins};
 ghost use Rattle.gx_rules.specs.Rules.{Joins, One, Sorted, Slashes, Single, Decided, Flat};
 
 /// Two loops over a comparison of keys come to the same where they are marked as a join: a mark has no meaning.
@@ -77,4 +78,14 @@ pub fn rewriting_keeps_outcomes()
 /// and the keys have values wherever they stand, and leave the forest as it is.
 pub fn rewriting_keeps_joins_fair()
     ensures { RewritingKeepsJoinsFair }
+{}
+
+/// Each join of a plan that any number of applications of rules lead to is fair, where the plan given has no join.
+pub fn rewritten_plans_have_fair_joins()
+    ensures { RewrittenPlansHaveFairJoins }
+{}
+
+/// A compiled plan has no join.
+pub fn compiled_plans_have_no_join()
+    ensures { CompiledPlansHaveNoJoin }
 {}
