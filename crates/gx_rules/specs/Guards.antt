@@ -121,6 +121,11 @@ is_quiet_operator schemas role (operators.Call function) parts =
     is_quiet_function function && are_converted_quietly schemas (parameters_of function) parts
 is_quiet_operator schemas role _ parts = true
 
+-- the operator of an expression
+abbrev pub is_quiet_at : SchemaSet → PlanExpression → Bool
+is_quiet_at schemas (At place outer carried operator parts) = is_quiet_operator schemas carried.role operator (kinds_carried parts)
+
+-- and all operators in it
 abbrev mutual
   pub is_quiet : SchemaSet → PlanExpression → Bool
   is_quiet schemas (At place outer carried operator parts) =
@@ -176,7 +181,11 @@ is_sorted (At place outer carried operator parts) = gives_nodes_in_order operato
 
 -- ---- names
 
--- a variable is named in an expression
+-- the operator of an expression names a variable
+abbrev pub names_at : PlanExpression → ℕ → Bool
+names_at (At place outer carried operator parts) number = names_variable operator number
+
+-- and so does an operator in it
 abbrev mutual
   pub is_named_in : PlanExpression → ℕ → Bool
   is_named_in (At place outer carried operator parts) number = names_variable operator number || is_named_in_parts parts number

@@ -57,6 +57,10 @@ abbrev pub step_kinds : Option SequenceType → List SequenceType
 step_kinds None = []
 step_kinds (Some t) = t ∷ []
 
+abbrev pub IsStep : Operator → Type 0
+IsStep (operators.Step axis asks number) = Unit {0}
+IsStep _ = ⊥
+
 abbrev pub made_step : RuleSetting → (place : Place) → Test → (variable : ℕ) → PlanExpression
 made_step setting place asks variable =
     At place place (own (made_kind setting.schemas (operators.Step axes.Descendant asks variable) (step_kinds (look_up setting.variables variable))))
