@@ -14,7 +14,7 @@ use Rattle.gx_plan.specs.declared.plan.Carried.{Carried}
 use Rattle.gx_plan.specs.declared.plan.Role.TheVariants as roles
 use Rattle.gx_plan.specs.Plan.{PlanExpression, own, kind_carried}
 use Rattle.gx_rules.specs.Guards.{is_own_role, is_sorted, is_flat}
-use Rattle.gx_rules.specs.Rules.{RuleSetting, Rule, One, Sorted, Flat, Slashes, Single, Decided, Idle, Joins, applied, where_met, made, made_as, made_let, made_step}
+use Rattle.gx_rules.specs.Rules.{RuleSetting, Rule, One, Sorted, Flat, Slashes, Single, Decided, Idle, Joins, applied, where_met, made, made_as, made_let, made_step, binder_of}
 use Rattle.gx_rules.specs.Rules.{one, sorted, flat, slashes, slashes_over, in_order, descending, descending_from, with_descendants, binds_alone, without_order}
 use Rattle.gx_rules.specs.Rules.{single, with_position, first_position, occurs_once, decided, idle, join, join_by_loop, join_by_test, join_by_keys, may_be_joined, joined, Loop}
 use Rattle.gx_rules.specs.Normal.{Applies, StepsTo, Reaches, IsNormal, AreNormal}
@@ -102,7 +102,7 @@ position_is_normal : (setting : RuleSetting) (place : Place) (position : ℕ) (b
     → IsNormal setting (with_position setting.schemas place position body)
 position_is_normal setting place zero body b = b
 position_is_normal setting place (suc n) body b =
-    let_is_normal setting place _ (first_position place) body (all_none setting (first_position place) refl refl, tt) b
+    let_is_normal setting place (binder_of (suc n) place) (first_position place) body (all_none setting (first_position place) refl refl, tt) b
 
 -- ---- what each rule gives is normal, where the parts are
 
@@ -136,9 +136,9 @@ single_is_normal setting place outer carried _ _ other n h = absurd (cc)
 decided_is_normal : (setting : RuleSetting) (place outer : Place) (carried : Carried) (operator : Operator) (parts : Parts Carried) (other : PlanExpression)
     → AreNormal setting parts → decided setting.schemas (At place outer carried operator parts) ≡ Some other → IsNormal setting other
 decided_is_normal setting place outer carried (operators.Switch [] default) (a_part operand (a_part branch no_parts)) other n h =
-    subst (IsNormal setting) (some_is _ other h) (let_is_normal setting place _ operand branch n.0 n.1.0)
+    subst (IsNormal setting) (some_is _ other h) (let_is_normal setting place (binder_of default place) operand branch n.0 n.1.0)
 decided_is_normal setting place outer carried (operators.Switch (case ∷ cases) default) (a_part operand (a_part branch branches)) other n h =
-    part_is_normal setting _ _ other (let_is_normal setting place _ operand branch n.0 n.1.0) h
+    part_is_normal setting _ _ other (let_is_normal setting place (binder_of case.variable place) operand branch n.0 n.1.0) h
 decided_is_normal setting place outer carried _ _ other n h = absurd (cc)
 
 idle_is_normal : (setting : RuleSetting) (place outer : Place) (carried : Carried) (operator : Operator) (parts : Parts Carried) (other : PlanExpression)
