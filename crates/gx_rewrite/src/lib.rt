@@ -1,4 +1,9 @@
 //! Typed rewriting: plans to which no rule applies, reached by applications of the rules.
 #![tactic(auto)]
 
+mod choices;
+mod joins;
+mod loops;
+mod order;
+mod parts;
 pub mod rewrite;
