@@ -49,9 +49,9 @@ use Rattle.gx_demo.specs.Workload.{workload_files}
 use Rattle.gx_processor.specs.FaultLines.{line, usage_line, left_type_line, right_type_line, read_fault_line, code_line, placed_line, binding_line, long_document_line, document_line, invalid_line, import_line, shown_with}
 use Rattle.gx_processor.specs.Serialisation.{serialised}
 use Rattle.gx_plan.specs.declared.plan.Plan.{Plan}
-use Rattle.gx_rewrite.specs.Rewriting.{setting_of}
+use Rattle.gx_rewrite.specs.Rewriting.{setting_of, PlansCanBeRewritten}
 use Rattle.gx_processor.specs.TypeBytes.{type_bytes}
-use Rattle.gx_processor.specs.PlanBytes.{plan_bytes, compiled_plan, PlansCanBeRewritten}
+use Rattle.gx_processor.specs.PlanBytes.{plan_bytes, compiled_plan}
 use Rattle.gx_processor.specs.Answer.{Answer, writes, refuses, can_be_written, AnswersTexts, AnswersOutcome, AnswersEvaluated, AnswersRead, AnswersKept, AnswersLoaded, AnswersFiles, AnswersBound, AnswersTyped, AnswersJudged, AnswersNamed, AnswersImported, AnswersSources, AnswersSchemas, AnswersParsed, AnswersBytes, AnswersFile, AnswersCommand, AnswersWords, AnAnswerExists, with_line_feed, workload_command, AnswersWorkload}
 
 outcome_answers : (schemas : SchemaSet) (t : SequenceType) (before : Forest) (o : Outcome Items) → Keeps (typed_setting schemas) before t o → (a : Answer) × AnswersOutcome o a
@@ -188,12 +188,12 @@ workload_answers exists imports items =
     let run = command_answers exists imports (workload_files items) (Some workload_command) tt in
     (with_line_feed run.0, (run.0, run.1, refl))
 
--- plans can be rewritten where the words ask for one
-asked_plans : (words : List (List ℕ)) (asked : Option Command) → command_of words ≡ asked → (AskForPlan words → PlansCanBeRewritten) → CanBeRewritten asked
-asked_plans words None e plans = tt
-asked_plans words (Some (run_file name bindings)) e plans = tt
-asked_plans words (Some (check_file name)) e plans = tt
-asked_plans words (Some (plan_file name)) e plans = plans (name, e)
+-- what a command asks of plans
+asked_plans : (asked : Option Command) → PlansCanBeRewritten → CanBeRewritten asked
+asked_plans None plans = tt
+asked_plans (Some (run_file name bindings)) plans = tt
+asked_plans (Some (check_file name)) plans = tt
+asked_plans (Some (plan_file name)) plans = plans
 
 words_answer : AnImportExists → ImportsAreSchemaSets → (files : Files) (texts : Option (List ℕ × List ℕ)) (workload : Option ℕ) (asked : Option Command)
     → CanBeRewritten asked → (a : Answer) × AnswersWords files texts workload asked a
@@ -201,6 +201,6 @@ words_answer exists imports files (Some texts) workload asked plans = texts_answ
 words_answer exists imports files None (Some items) asked plans = workload_answers exists imports items
 words_answer exists imports files None None asked plans = command_answers exists imports files asked plans
 
-pub an_answer_exists : AnImportExists → ImportsAreSchemaSets → AnAnswerExists
-an_answer_exists exists imports words files plans =
-    words_answer exists imports files (texts_to_compare words) (workload_asked words) (command_of words) (asked_plans words (command_of words) refl plans)
+pub an_answer_exists : AnImportExists → ImportsAreSchemaSets → PlansCanBeRewritten → AnAnswerExists
+an_answer_exists exists imports plans words files =
+    words_answer exists imports files (texts_to_compare words) (workload_asked words) (command_of words) (asked_plans (command_of words) plans)

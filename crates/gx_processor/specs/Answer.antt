@@ -34,13 +34,13 @@ use Rattle.gx_processor.specs.RuleCode.{rule_code}
 use Rattle.gx_processor.specs.NamedQuery.{NamedQuery, named_query, unknown_name, query_named}
 use Rattle.gx_processor.specs.Serialisation.{serialised}
 use Rattle.gx_processor.specs.TypeBytes.{type_bytes}
-use Rattle.gx_processor.specs.PlanBytes.{IsPlanText, PlansCanBeRewritten}
+use Rattle.gx_processor.specs.PlanBytes.{IsPlanText}
 use Rattle.gx_documents.specs.Bindings.{Misbound, misbound}
 use Rattle.gx_documents.specs.Documents.{Files, Request, tree_requests, document_nodes}
 use Rattle.gx_processor.specs.Externals.{external_words, documents_bound}
 use Rattle.gx_processor.specs.SchemaFiles.{schema_files, schema_requests, file_name_at}
 use Rattle.gx_schema.specs.Import.{Imported, declares, breaks, IsImported}
-use Rattle.gx_processor.specs.Command.{Command, run_file, check_file, plan_file, query_file, command_of, texts_to_compare, workload_asked, AskForPlan}
+use Rattle.gx_processor.specs.Command.{Command, run_file, check_file, plan_file, query_file, command_of, texts_to_compare, workload_asked}
 use Rattle.gx_demo.specs.Workload.{workload_query, workload_binding, workload_files}
 use Rattle.gx_processor.specs.FaultLines.{line, usage_line, left_type_line, right_type_line, read_fault_line, code_line, placed_line, binding_line, long_document_line, document_line, invalid_line, import_line, shown_with}
 use Rattle.gx_base.specs.declared.limits.TheConstants.{FILE_BYTES}
@@ -214,10 +214,9 @@ AnswersAreAlike =
     (words : List (List ℕ)) (files : Files) (answer other : Answer) → Answers words files answer → Answers words files other
     → AreAlike (command_of words) answer other
 
--- there is an answer to all words and files, where plans can be rewritten if the words ask for one
+-- there is an answer to all words and files
 abbrev pub AnAnswerExists : Type 0
-AnAnswerExists =
-    (words : List (List ℕ)) (files : Files) → (AskForPlan words → PlansCanBeRewritten) → (answer : Answer) × Answers words files answer
+AnAnswerExists = (words : List (List ℕ)) (files : Files) → (answer : Answer) × Answers words files answer
 
 -- what a check of a file refuses, a run of it refuses with the same line
 abbrev pub ChecksRefuseForRuns : Type 0

@@ -4,11 +4,9 @@ use Rattle.std.specs.Str.{encode_utf8_all}
 use Rattle.gx_types.specs.SchemaSet.{SchemaSet}
 use Rattle.gx_core.specs.Queries.{TypedCore}
 use Rattle.gx_plan.specs.declared.plan.Plan.{Plan}
-use Rattle.gx_plan.specs.Plan.{PlanQuery}
 use Rattle.gx_plan.specs.Compiling.{compiled_query}
 use Rattle.gx_plan.specs.Variables.{variables_of_query}
 use Rattle.gx_plantext.specs.PlanText.{plan_text}
-use Rattle.gx_rules.specs.Rules.{RuleSetting}
 use Rattle.gx_rules.specs.Normal.{IsRewritten}
 use Rattle.gx_rewrite.specs.Rewriting.{setting_of}
 use Rattle.gx_processor.specs.FaultLines.{line}
@@ -33,7 +31,3 @@ IsRewrittenText schemas plan bytes = (other : Plan) × IsRewrittenPlan schemas p
 -- and that of a plan of a query
 abbrev pub IsPlanText : SchemaSet → TypedCore → (bytes : List ℕ) → Type 0
 IsPlanText schemas typing bytes = IsRewrittenText schemas (compiled_plan typing) bytes
-
--- each plan can be rewritten to one to which no rule applies
-abbrev pub PlansCanBeRewritten : Type 0
-PlansCanBeRewritten = (setting : RuleSetting) (query : PlanQuery) → (other : PlanQuery) × IsRewritten setting query other

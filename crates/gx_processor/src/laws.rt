@@ -5,14 +5,16 @@ ghost use Rattle.gx_processor.specs.Loading.{AnswersLookAtTheirLoads};
 ghost use Rattle.gx_processor.specs.ExternalDocuments.{NamedQueriesHaveDocuments};
 ghost use Rattle.gx_processor.specs.JudgedQueries.{NamedQueriesAreJudgedByInclusion, NamedQueriesNameWrittenTypes};
 
+use gx_rewrite::laws::plans_can_be_rewritten;
 use gx_schema::laws::{an_import_exists, imports_are_one, imports_are_schema_sets};
 
-/// The words and the files have an answer; where the words ask for a plan, if plans can be rewritten.
+/// The words and the files have an answer.
 pub fn an_answer_exists()
     ensures { AnAnswerExists }
 {
     imports_are_schema_sets();
     an_import_exists();
+    plans_can_be_rewritten();
 }
 
 /// The words and the files have at most one answer; where the words ask for a plan, its answers differ in nothing but the text of the plan.

@@ -15,8 +15,8 @@ use Rattle.gx_plan.specs.declared.plan.Carried.{Carried}
 use Rattle.gx_plan.specs.Plan.{PlanExpression, kind_carried}
 use Rattle.gx_static.specs.Rule.{atomic}
 use Rattle.gx_rules.specs.Guards.{is_flat}
-use Rattle.gx_rules.specs.Rules.{RuleSetting, where_met, made_let, binder_of, any_atomic_values}
-use Rattle.gx_rewrite.specs.Rewriting.{or_else, rewritten_at}
+use Rattle.gx_rules.specs.Rules.{RuleSetting, if_guarded, made_let, plain_binder, any_atomic_values}
+use Rattle.gx_rewrite.specs.Rewriting.{one_or_other, rewritten_at}
 use Rattle.gx_rewrite.specs.Shapes.{is_decided, chosen_variable, is_idle_call}
 use Rattle.gx_rewrite.proofs.Forms.{each_of_all}
 
@@ -24,9 +24,9 @@ pub decided_applies : (setting : RuleSetting) (place outer : Place) (carried : C
     (branches : List PlanExpression) (branch : PlanExpression) (others : List PlanExpression) → branches ≡ branch ∷ others
     → is_decided setting.schemas (kind_carried operand) cases branches ≡ true
     → rewritten_at setting (At place outer carried (operators.Switch cases default) (a_part operand (all_parts branches)))
-    ≡ made_let setting.schemas place (binder_of (chosen_variable cases default) place) operand branch
+    ≡ made_let setting.schemas place (plain_binder (chosen_variable cases default) place) operand branch
 decided_applies setting place outer carried operand [] default (branch ∷ []) first others e h =
-    ap (λ (es : List PlanExpression). made_let setting.schemas place (binder_of default place) operand (unwrap_or (first_in es) branch)) e
+    ap (λ (es : List PlanExpression). made_let setting.schemas place (plain_binder default place) operand (unwrap_or (first_in es) branch)) e
   where
     first_in : List PlanExpression → Option PlanExpression
     first_in [] = None
@@ -35,9 +35,9 @@ decided_applies setting place outer carried operand [] default (branch ∷ anoth
 decided_applies setting place outer carried operand [] default [] first others e h = absurd (cc)
 decided_applies setting place outer carried operand (case ∷ cases) default [] first others e h = absurd (cc)
 decided_applies setting place outer carried operand (case ∷ cases) default (branch ∷ more) first others e h =
-    ap (λ b. unwrap_or (or_else (or_else (where_met b (made_let setting.schemas place (binder_of case.variable place) operand branch)) None) None)
+    ap (λ b. unwrap_or (one_or_other (one_or_other (if_guarded b (made_let setting.schemas place (plain_binder case.variable place) operand branch)) None) None)
     (At place outer carried (operators.Switch (case ∷ cases) default) (a_part operand (all_parts (branch ∷ more))))) h
-    ∙ ap (λ (es : List PlanExpression). made_let setting.schemas place (binder_of case.variable place) operand (unwrap_or (first_in es) branch)) e
+    ∙ ap (λ (es : List PlanExpression). made_let setting.schemas place (plain_binder case.variable place) operand (unwrap_or (first_in es) branch)) e
   where
     first_in : List PlanExpression → Option PlanExpression
     first_in [] = None
@@ -52,7 +52,7 @@ switch_stays setting place outer carried operand [] default (branch ∷ []) h = 
 switch_stays setting place outer carried operand [] default (branch ∷ another ∷ more) h = refl
 switch_stays setting place outer carried operand (case ∷ cases) default [] h = refl
 switch_stays setting place outer carried operand (case ∷ cases) default (branch ∷ more) h =
-    ap (λ b. unwrap_or (or_else (or_else (where_met b (made_let setting.schemas place (binder_of case.variable place) operand branch)) None) None)
+    ap (λ b. unwrap_or (one_or_other (one_or_other (if_guarded b (made_let setting.schemas place (plain_binder case.variable place) operand branch)) None) None)
     (At place outer carried (operators.Switch (case ∷ cases) default) (a_part operand (all_parts (branch ∷ more))))) h
 
 pub facts_of_branches : (operand : PlanExpression) (branches : List PlanExpression)
@@ -64,7 +64,7 @@ pub idle_call_goes : (setting : RuleSetting) (place outer : Place) (carried : Ca
     → is_idle_call setting.schemas function arguments ≡ true
     → rewritten_at setting (At place outer carried (operators.Call function) (all_parts arguments)) ≡ argument
 idle_call_goes setting place outer carried functions.Boolean (e ∷ []) argument others is h =
-    ap (λ b. unwrap_or (or_else (where_met b e) None) (At place outer carried (operators.Call functions.Boolean) (one_part e))) h
+    ap (λ b. unwrap_or (one_or_other (if_guarded b e) None) (At place outer carried (operators.Call functions.Boolean) (one_part e))) h
     ∙ ap (λ (es : List PlanExpression). unwrap_or (first_in es) e) is
   where
     first_in : List PlanExpression → Option PlanExpression
@@ -77,7 +77,7 @@ pub call_stays : (setting : RuleSetting) (place outer : Place) (carried : Carrie
     → rewritten_at setting (At place outer carried (operators.Call function) (all_parts arguments))
     ≡ At place outer carried (operators.Call function) (all_parts arguments)
 call_stays setting place outer carried functions.Boolean (e ∷ []) h =
-    ap (λ b. unwrap_or (or_else (where_met b e) None) (At place outer carried (operators.Call functions.Boolean) (one_part e))) h
+    ap (λ b. unwrap_or (one_or_other (if_guarded b e) None) (At place outer carried (operators.Call functions.Boolean) (one_part e))) h
 call_stays setting place outer carried functions.Boolean [] h = refl
 call_stays setting place outer carried functions.Boolean (e ∷ d ∷ more) h = refl
 call_stays setting place outer carried _ arguments h = refl
@@ -89,10 +89,10 @@ pub idle_data_goes : (setting : RuleSetting) (place outer : Place) (carried : Ca
     → is_included setting.schemas (kind_carried e) any_atomic_values ≡ true
     → rewritten_at setting (At place outer carried operators.DataOf (one_part e)) ≡ e
 idle_data_goes setting place outer carried e h =
-    ap (λ b. unwrap_or (or_else (where_met b e) None) (At place outer carried operators.DataOf (one_part e))) h
+    ap (λ b. unwrap_or (one_or_other (if_guarded b e) None) (At place outer carried operators.DataOf (one_part e))) h
 
 pub data_stays : (setting : RuleSetting) (place outer : Place) (carried : Carried) (e : PlanExpression)
     → is_included setting.schemas (kind_carried e) any_atomic_values ≡ false
     → rewritten_at setting (At place outer carried operators.DataOf (one_part e)) ≡ At place outer carried operators.DataOf (one_part e)
 data_stays setting place outer carried e h =
-    ap (λ b. unwrap_or (or_else (where_met b e) None) (At place outer carried operators.DataOf (one_part e))) h
+    ap (λ b. unwrap_or (one_or_other (if_guarded b e) None) (At place outer carried operators.DataOf (one_part e))) h

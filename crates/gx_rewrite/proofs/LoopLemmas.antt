@@ -13,8 +13,8 @@ use Rattle.gx_plan.specs.Plan.{PlanExpression, kind_carried}
 use Rattle.gx_rules.specs.Guards.{is_own_role}
 use Rattle.gx_plan.specs.declared.plan.Role.{Role}
 use Rattle.gx_plan.specs.declared.plan.Role.TheVariants as roles
-use Rattle.gx_rules.specs.Rules.{RuleSetting, where_met, made_as, made_let, with_position, occurs_once, single, join, join_by_loop, join_by_test, join_by_keys, joined, Loop}
-use Rattle.gx_rewrite.specs.Rewriting.{or_else, simplified, rewritten_at}
+use Rattle.gx_rules.specs.Rules.{RuleSetting, if_guarded, made_as, made_let, with_position, occurs_once, single_loop, join, join_by_loop, join_by_test, join_by_keys, marked_loops, Loop}
+use Rattle.gx_rewrite.specs.Rewriting.{one_or_other, simplified, rewritten_at}
 use Rattle.gx_rewrite.specs.Shapes.{is_join_loop, joins_by_loop, joins_by_test, joins_by_keys, is_empty_operator, marked_comparison, marked_test, marked_loop, marked_join}
 
 -- its source has one item
@@ -23,8 +23,8 @@ pub single_applies : (setting : RuleSetting) (place outer : Place) (carried : Ca
     → rewritten_at setting (At place outer carried (operators.For binder position) (two_parts source body))
     ≡ made_let setting.schemas place binder source (with_position setting.schemas place position body)
 single_applies setting place outer carried binder position source body h =
-    ap (λ b. unwrap_or (or_else (or_else (where_met b (made_let setting.schemas place binder source (with_position setting.schemas place position body)))
-    (or_else (join setting.schemas (At place outer carried (operators.For binder position) (two_parts source body))) None)) None)
+    ap (λ b. unwrap_or (one_or_other (one_or_other (if_guarded b (made_let setting.schemas place binder source (with_position setting.schemas place position body)))
+    (one_or_other (join setting.schemas (At place outer carried (operators.For binder position) (two_parts source body))) None)) None)
     (At place outer carried (operators.For binder position) (two_parts source body))) h
 
 if_true : (test more : Bool) (found : Option PlanExpression) (e : PlanExpression) → test && more ≡ true → (more ≡ true → found ≡ Some e)
@@ -50,7 +50,7 @@ keys_are_marked : (schemas : SchemaSet) (outer inner : Loop) (test absent : Plac
     (made_as roles.InJoin schemas test operators.If
     (three_parts (marked_comparison schemas comparison) result (made_as roles.InJoin schemas absent operators.Empty no_parts)))))))
 keys_are_marked schemas outer inner test absent result (At place o c (operators.Binary binary.AnyEq) (a_part left_key (a_part right_key no_parts))) h =
-    ap (λ b. where_met b (joined schemas outer inner test place absent left_key right_key result)) h
+    ap (λ b. if_guarded b (marked_loops schemas outer inner test place absent left_key right_key result)) h
 keys_are_marked schemas outer inner test absent result (At place o c _ _) h = absurd (cc)
 
 test_is_marked : (schemas : SchemaSet) (outer inner : Loop) (test : PlanExpression)
@@ -83,7 +83,7 @@ no_keys : (schemas : SchemaSet) (outer inner : Loop) (test absent : Place) (resu
     → joins_by_keys schemas outer.binder.variable inner.binder.variable inner.source comparison ≡ false
     → join_by_keys schemas outer inner test absent result comparison ≡ None
 no_keys schemas outer inner test absent result (At place o c (operators.Binary binary.AnyEq) (a_part left_key (a_part right_key no_parts))) h =
-    ap (λ b. where_met b (joined schemas outer inner test place absent left_key right_key result)) h
+    ap (λ b. if_guarded b (marked_loops schemas outer inner test place absent left_key right_key result)) h
 no_keys schemas outer inner test absent result (At place o c _ _) h = refl
 
 no_test : (schemas : SchemaSet) (outer inner : Loop) (test : PlanExpression)
@@ -101,7 +101,7 @@ no_join schemas outer (At place o c _ _) h = refl
 -- a loop whose source need not have one item
 abbrev beside_single : (setting : RuleSetting) → (whole single_let : PlanExpression) → Bool → Option PlanExpression → PlanExpression
 beside_single setting whole single_let once joined_loop =
-    unwrap_or (or_else (or_else (where_met once single_let) (or_else joined_loop None)) None) whole
+    unwrap_or (one_or_other (one_or_other (if_guarded once single_let) (one_or_other joined_loop None)) None) whole
 
 -- its body makes it a join
 pub join_applies : (setting : RuleSetting) (place outer : Place) (carried : Carried) (binder : Binder) (position : ℕ) (source body : PlanExpression)

@@ -14,11 +14,11 @@ use Rattle.gx_plan.specs.declared.plan.Carried.{Carried}
 use Rattle.gx_plan.specs.declared.plan.Role.TheVariants as roles
 use Rattle.gx_plan.specs.Plan.{PlanExpression, own, kind_carried}
 use Rattle.gx_rules.specs.Guards.{is_own_role, is_sorted, is_flat}
-use Rattle.gx_rules.specs.Rules.{RuleSetting, Rule, One, Sorted, Flat, Slashes, Single, Decided, Idle, Joins, applied, where_met, made, made_as, made_let, made_step, binder_of}
-use Rattle.gx_rules.specs.Rules.{one, sorted, flat, slashes, slashes_over, in_order, descending, descending_from, with_descendants, binds_alone, without_order}
-use Rattle.gx_rules.specs.Rules.{single, with_position, first_position, occurs_once, decided, idle, join, join_by_loop, join_by_test, join_by_keys, may_be_joined, joined, Loop}
-use Rattle.gx_rules.specs.Normal.{Applies, StepsTo, Reaches, IsNormal, AreNormal}
-use Rattle.gx_rewrite.specs.Rewriting.{or_else, without_need_of_order, simplified, descended, rewritten_at}
+use Rattle.gx_rules.specs.Rules.{RuleSetting, RewritingRule, One, Sorted, Flat, Slashes, Single, Decided, Idle, Joins, rewritten_by, if_guarded, made_operator, made_as, made_let, made_step, plain_binder}
+use Rattle.gx_rules.specs.Rules.{one, order_of_sorted, flat, slashes, slashes_over, ordered_operand, with_steps_below, descending_from, loop_over_descendants, binds_alone, without_order}
+use Rattle.gx_rules.specs.Rules.{single_loop, with_position, first_position, occurs_once, decided_switch, idle, join, join_by_loop, join_by_test, join_by_keys, may_be_joined, marked_loops, Loop}
+use Rattle.gx_rules.specs.Normal.{Applies, StepsTo, PlanReaches, IsNormal, AreNormal}
+use Rattle.gx_rewrite.specs.Rewriting.{one_or_other, without_need_of_order, simplified, descended, rewritten_at}
 use Rattle.gx_rewrite.proofs.Reaching.{stays, by_one, then_reaches, by_rule}
 
 -- ---- options
@@ -27,15 +27,15 @@ some_is : (e other : PlanExpression) → Some e ≡ Some other → e ≡ other
 some_is e other h = ap (λ found. unwrap_or found e) h
 
 -- what a guard lets through
-met : (guard : Bool) (e other : PlanExpression) → where_met guard e ≡ Some other → e ≡ other
+met : (guard : Bool) (e other : PlanExpression) → if_guarded guard e ≡ Some other → e ≡ other
 met true e other h = some_is e other h
 met false e other h = absurd (cc)
 
-guard_is_met : (guard : Bool) (e other : PlanExpression) → where_met guard e ≡ Some other → guard ≡ true
+guard_is_met : (guard : Bool) (e other : PlanExpression) → if_guarded guard e ≡ Some other → guard ≡ true
 guard_is_met true e other h = refl
 guard_is_met false e other h = absurd (cc)
 
-guard_fails : (guard : Bool) (e : PlanExpression) → where_met guard e ≡ None → guard ≡ false
+guard_fails : (guard : Bool) (e : PlanExpression) → if_guarded guard e ≡ None → guard ≡ false
 guard_fails true e h = absurd (cc)
 guard_fails false e h = refl
 
@@ -43,11 +43,11 @@ if_some : (test : Bool) (found : Option PlanExpression) (other : PlanExpression)
 if_some true found other h = h
 if_some false found other h = absurd (cc)
 
-none_of : (first second : Option PlanExpression) → or_else first second ≡ None → (first ≡ None) × (second ≡ None)
+none_of : (first second : Option PlanExpression) → one_or_other first second ≡ None → (first ≡ None) × (second ≡ None)
 none_of None second h = (refl, h)
 none_of (Some e) second h = absurd (cc)
 
-some_of : (first second : Option PlanExpression) (e : PlanExpression) → or_else first second ≡ Some e → (first ≡ Some e) ⊎ (second ≡ Some e)
+some_of : (first second : Option PlanExpression) (e : PlanExpression) → one_or_other first second ≡ Some e → (first ≡ Some e) ⊎ (second ≡ Some e)
 some_of None second e h = inr h
 some_of (Some found) second e h = inl h
 
@@ -62,26 +62,26 @@ second_fails false b h k = absurd (cc)
 -- ---- no rule applies
 
 all_none : (setting : RuleSetting) (e : PlanExpression) → simplified setting e ≡ None → slashes setting e ≡ None
-    → (rule : Rule) → applied setting rule e ≡ None
+    → (rule : RewritingRule) → rewritten_by setting rule e ≡ None
 all_none setting e s d rule = no_rule rule
   where
     schemas : SchemaSet
     schemas = setting.schemas
     behind : Option PlanExpression
-    behind = or_else (single schemas e) (or_else (join schemas e) (or_else (decided schemas e) (idle schemas e)))
+    behind = one_or_other (single_loop schemas e) (one_or_other (join schemas e) (one_or_other (decided_switch schemas e) (idle schemas e)))
     order_kept : (without_need_of_order e ≡ None) × (behind ≡ None)
     order_kept = none_of (without_need_of_order e) behind s
-    not_one : (one e ≡ None) × (or_else (sorted e) (flat e) ≡ None)
-    not_one = none_of (one e) (or_else (sorted e) (flat e)) order_kept.0
-    not_sorted : (sorted e ≡ None) × (flat e ≡ None)
-    not_sorted = none_of (sorted e) (flat e) not_one.1
-    not_single : (single schemas e ≡ None) × (or_else (join schemas e) (or_else (decided schemas e) (idle schemas e)) ≡ None)
-    not_single = none_of (single schemas e) (or_else (join schemas e) (or_else (decided schemas e) (idle schemas e))) order_kept.1
-    not_joined : (join schemas e ≡ None) × (or_else (decided schemas e) (idle schemas e) ≡ None)
-    not_joined = none_of (join schemas e) (or_else (decided schemas e) (idle schemas e)) not_single.1
-    not_decided : (decided schemas e ≡ None) × (idle schemas e ≡ None)
-    not_decided = none_of (decided schemas e) (idle schemas e) not_joined.1
-    no_rule : (rule : Rule) → applied setting rule e ≡ None
+    not_one : (one e ≡ None) × (one_or_other (order_of_sorted e) (flat e) ≡ None)
+    not_one = none_of (one e) (one_or_other (order_of_sorted e) (flat e)) order_kept.0
+    not_sorted : (order_of_sorted e ≡ None) × (flat e ≡ None)
+    not_sorted = none_of (order_of_sorted e) (flat e) not_one.1
+    not_single : (single_loop schemas e ≡ None) × (one_or_other (join schemas e) (one_or_other (decided_switch schemas e) (idle schemas e)) ≡ None)
+    not_single = none_of (single_loop schemas e) (one_or_other (join schemas e) (one_or_other (decided_switch schemas e) (idle schemas e))) order_kept.1
+    not_joined : (join schemas e ≡ None) × (one_or_other (decided_switch schemas e) (idle schemas e) ≡ None)
+    not_joined = none_of (join schemas e) (one_or_other (decided_switch schemas e) (idle schemas e)) not_single.1
+    not_decided : (decided_switch schemas e ≡ None) × (idle schemas e ≡ None)
+    not_decided = none_of (decided_switch schemas e) (idle schemas e) not_joined.1
+    no_rule : (rule : RewritingRule) → rewritten_by setting rule e ≡ None
     no_rule One = not_one.0
     no_rule Sorted = not_sorted.0
     no_rule Flat = not_sorted.1
@@ -102,11 +102,11 @@ position_is_normal : (setting : RuleSetting) (place : Place) (position : ℕ) (b
     → IsNormal setting (with_position setting.schemas place position body)
 position_is_normal setting place zero body b = b
 position_is_normal setting place (suc n) body b =
-    let_is_normal setting place (binder_of (suc n) place) (first_position place) body (all_none setting (first_position place) refl refl, tt) b
+    let_is_normal setting place (plain_binder (suc n) place) (first_position place) body (all_none setting (first_position place) refl refl, tt) b
 
 -- ---- what each rule gives is normal, where the parts are
 
-part_is_normal : (setting : RuleSetting) (guard : Bool) (e other : PlanExpression) → IsNormal setting e → where_met guard e ≡ Some other
+part_is_normal : (setting : RuleSetting) (guard : Bool) (e other : PlanExpression) → IsNormal setting e → if_guarded guard e ≡ Some other
     → IsNormal setting other
 part_is_normal setting guard e other n h = subst (IsNormal setting) (met guard e other h) n
 
@@ -116,7 +116,7 @@ one_is_normal setting place outer carried operators.Order (a_part e no_parts) ot
 one_is_normal setting place outer carried _ _ other n h = absurd (cc)
 
 sorted_is_normal : (setting : RuleSetting) (place outer : Place) (carried : Carried) (operator : Operator) (parts : Parts Carried) (other : PlanExpression)
-    → AreNormal setting parts → sorted (At place outer carried operator parts) ≡ Some other → IsNormal setting other
+    → AreNormal setting parts → order_of_sorted (At place outer carried operator parts) ≡ Some other → IsNormal setting other
 sorted_is_normal setting place outer carried operators.Order (a_part e no_parts) other n h = part_is_normal setting _ e other n.0 h
 sorted_is_normal setting place outer carried _ _ other n h = absurd (cc)
 
@@ -126,7 +126,7 @@ flat_is_normal setting place outer carried operators.Order (a_part e no_parts) o
 flat_is_normal setting place outer carried _ _ other n h = absurd (cc)
 
 single_is_normal : (setting : RuleSetting) (place outer : Place) (carried : Carried) (operator : Operator) (parts : Parts Carried) (other : PlanExpression)
-    → AreNormal setting parts → single setting.schemas (At place outer carried operator parts) ≡ Some other → IsNormal setting other
+    → AreNormal setting parts → single_loop setting.schemas (At place outer carried operator parts) ≡ Some other → IsNormal setting other
 single_is_normal setting place outer carried (operators.For binder position) (a_part source (a_part body no_parts)) other n h =
     part_is_normal setting _ _ other
     (let_is_normal setting place binder source (with_position setting.schemas place position body) n.0
@@ -134,11 +134,11 @@ single_is_normal setting place outer carried (operators.For binder position) (a_
 single_is_normal setting place outer carried _ _ other n h = absurd (cc)
 
 decided_is_normal : (setting : RuleSetting) (place outer : Place) (carried : Carried) (operator : Operator) (parts : Parts Carried) (other : PlanExpression)
-    → AreNormal setting parts → decided setting.schemas (At place outer carried operator parts) ≡ Some other → IsNormal setting other
+    → AreNormal setting parts → decided_switch setting.schemas (At place outer carried operator parts) ≡ Some other → IsNormal setting other
 decided_is_normal setting place outer carried (operators.Switch [] default) (a_part operand (a_part branch no_parts)) other n h =
-    subst (IsNormal setting) (some_is _ other h) (let_is_normal setting place (binder_of default place) operand branch n.0 n.1.0)
+    subst (IsNormal setting) (some_is _ other h) (let_is_normal setting place (plain_binder default place) operand branch n.0 n.1.0)
 decided_is_normal setting place outer carried (operators.Switch (case ∷ cases) default) (a_part operand (a_part branch branches)) other n h =
-    part_is_normal setting _ _ other (let_is_normal setting place (binder_of case.variable place) operand branch n.0 n.1.0) h
+    part_is_normal setting _ _ other (let_is_normal setting place (plain_binder case.variable place) operand branch n.0 n.1.0) h
 decided_is_normal setting place outer carried _ _ other n h = absurd (cc)
 
 idle_is_normal : (setting : RuleSetting) (place outer : Place) (carried : Carried) (operator : Operator) (parts : Parts Carried) (other : PlanExpression)
@@ -149,7 +149,7 @@ idle_is_normal setting place outer carried _ _ other n h = absurd (cc)
 
 joined_is_normal : (setting : RuleSetting) (outer inner : Loop) (test comparison absent : Place) (left_key right_key result : PlanExpression)
     → IsNormal setting outer.source → IsNormal setting inner.source → IsNormal setting left_key → IsNormal setting right_key
-    → IsNormal setting result → IsNormal setting (joined setting.schemas outer inner test comparison absent left_key right_key result)
+    → IsNormal setting result → IsNormal setting (marked_loops setting.schemas outer inner test comparison absent left_key right_key result)
 joined_is_normal setting outer inner test comparison absent left_key right_key result s t l r e =
     (all_none setting _ refl refl, (s,
     ((all_none setting _ refl refl, (t,
@@ -199,26 +199,26 @@ simplifies setting place outer carried operator parts other n h = by_kind (some_
     schemas : SchemaSet
     schemas = setting.schemas
     behind : Option PlanExpression
-    behind = or_else (single schemas e) (or_else (join schemas e) (or_else (decided schemas e) (idle schemas e)))
-    by_last : (decided schemas e ≡ Some other) ⊎ (idle schemas e ≡ Some other) → Simplifies setting e other
+    behind = one_or_other (single_loop schemas e) (one_or_other (join schemas e) (one_or_other (decided_switch schemas e) (idle schemas e)))
+    by_last : (decided_switch schemas e ≡ Some other) ⊎ (idle schemas e ≡ Some other) → Simplifies setting e other
     by_last (inl k) = (by_rule setting e other Decided k, decided_is_normal setting place outer carried operator parts other n k)
     by_last (inr k) = (by_rule setting e other Idle k, idle_is_normal setting place outer carried operator parts other n k)
-    by_join : (join schemas e ≡ Some other) ⊎ (or_else (decided schemas e) (idle schemas e) ≡ Some other) → Simplifies setting e other
+    by_join : (join schemas e ≡ Some other) ⊎ (one_or_other (decided_switch schemas e) (idle schemas e) ≡ Some other) → Simplifies setting e other
     by_join (inl k) = (by_rule setting e other Joins k, join_is_normal setting place outer carried operator parts other n k)
-    by_join (inr k) = by_last (some_of (decided schemas e) (idle schemas e) other k)
-    by_single : (single schemas e ≡ Some other) ⊎ (or_else (join schemas e) (or_else (decided schemas e) (idle schemas e)) ≡ Some other)
+    by_join (inr k) = by_last (some_of (decided_switch schemas e) (idle schemas e) other k)
+    by_single : (single_loop schemas e ≡ Some other) ⊎ (one_or_other (join schemas e) (one_or_other (decided_switch schemas e) (idle schemas e)) ≡ Some other)
         → Simplifies setting e other
     by_single (inl k) = (by_rule setting e other Single k, single_is_normal setting place outer carried operator parts other n k)
-    by_single (inr k) = by_join (some_of (join schemas e) (or_else (decided schemas e) (idle schemas e)) other k)
-    by_flat : (sorted e ≡ Some other) ⊎ (flat e ≡ Some other) → Simplifies setting e other
+    by_single (inr k) = by_join (some_of (join schemas e) (one_or_other (decided_switch schemas e) (idle schemas e)) other k)
+    by_flat : (order_of_sorted e ≡ Some other) ⊎ (flat e ≡ Some other) → Simplifies setting e other
     by_flat (inl k) = (by_rule setting e other Sorted k, sorted_is_normal setting place outer carried operator parts other n k)
     by_flat (inr k) = (by_rule setting e other Flat k, flat_is_normal setting place outer carried operator parts other n k)
-    by_order : (one e ≡ Some other) ⊎ (or_else (sorted e) (flat e) ≡ Some other) → Simplifies setting e other
+    by_order : (one e ≡ Some other) ⊎ (one_or_other (order_of_sorted e) (flat e) ≡ Some other) → Simplifies setting e other
     by_order (inl k) = (by_rule setting e other One k, one_is_normal setting place outer carried operator parts other n k)
-    by_order (inr k) = by_flat (some_of (sorted e) (flat e) other k)
+    by_order (inr k) = by_flat (some_of (order_of_sorted e) (flat e) other k)
     by_kind : (without_need_of_order e ≡ Some other) ⊎ (behind ≡ Some other) → Simplifies setting e other
-    by_kind (inl k) = by_order (some_of (one e) (or_else (sorted e) (flat e)) other k)
-    by_kind (inr k) = by_single (some_of (single schemas e) (or_else (join schemas e) (or_else (decided schemas e) (idle schemas e))) other k)
+    by_kind (inl k) = by_order (some_of (one e) (one_or_other (order_of_sorted e) (flat e)) other k)
+    by_kind (inr k) = by_single (some_of (single_loop schemas e) (one_or_other (join schemas e) (one_or_other (decided_switch schemas e) (idle schemas e))) other k)
 
 -- ---- by `slashes`
 
@@ -226,9 +226,9 @@ simplifies setting place outer carried operator parts other n h = by_kind (some_
 record IsOrderOver (setting : RuleSetting) (other : PlanExpression) : Type 0 where
   pub place : Place
   pub operand : PlanExpression
-  pub is : other ≡ made setting.schemas place operators.Order (one_part operand)
+  pub is : other ≡ made_operator setting.schemas place operators.Order (one_part operand)
   pub normal : IsNormal setting operand
-  pub none : slashes setting (made setting.schemas place operators.Order (one_part operand)) ≡ None
+  pub none : slashes setting (made_operator setting.schemas place operators.Order (one_part operand)) ≡ None
 
 step_is_normal : (setting : RuleSetting) (place : Place) (asks : Test) (variable : ℕ) → IsNormal setting (made_step setting place asks variable)
 step_is_normal setting place asks variable = (all_none setting (made_step setting place asks variable) refl refl, tt)
@@ -237,23 +237,23 @@ step_is_normal setting place asks variable = (all_none setting (made_step settin
 descends_from : (setting : RuleSetting) (order place : Place) (asks : Test) (outer : Place) (carried : Carried) (operator : Operator)
     (source body other : PlanExpression) → IsNormal setting (At place outer carried operator (two_parts source body))
     → descending_from setting place asks (is_own_role carried.role) operator source body (binds_alone operator) ≡ Some other
-    → IsNormal setting other × (slashes setting (made setting.schemas order operators.Order (one_part other)) ≡ None)
+    → IsNormal setting other × (slashes setting (made_operator setting.schemas order operators.Order (one_part other)) ≡ None)
 descends_from setting order place asks outer carried (operators.For binder zero) source body other n h =
-    let loop = with_descendants setting place asks (operators.For binder zero) source binder in
+    let loop = loop_over_descendants setting place asks (operators.For binder zero) source binder in
     let is_own = first_holds (is_own_role carried.role) _ (guard_is_met _ loop other h) in
     let not_once : occurs_once (kind_carried source) ≡ false = second_fails (is_own_role carried.role) (occurs_once (kind_carried source)) is_own (guard_fails _ _ (n.0 Single)) in
-    let simple : simplified setting loop ≡ None = ap (λ b. or_else (where_met b (made_let setting.schemas place binder source (with_position setting.schemas place zero (made_step setting place asks binder.variable)))) None) not_once in
-    subst (λ (l : PlanExpression). IsNormal setting l × (slashes setting (made setting.schemas order operators.Order (one_part l)) ≡ None)) (met _ loop other h)
+    let simple : simplified setting loop ≡ None = ap (λ b. one_or_other (if_guarded b (made_let setting.schemas place binder source (with_position setting.schemas place zero (made_step setting place asks binder.variable)))) None) not_once in
+    subst (λ (l : PlanExpression). IsNormal setting l × (slashes setting (made_operator setting.schemas order operators.Order (one_part l)) ≡ None)) (met _ loop other h)
     ((all_none setting loop simple refl, (n.1.0, (step_is_normal setting place asks binder.variable, tt))), refl)
 descends_from setting order place asks outer carried (operators.Let binder) source body other n h =
-    let loop = with_descendants setting place asks (operators.Let binder) source binder in
-    subst (λ (l : PlanExpression). IsNormal setting l × (slashes setting (made setting.schemas order operators.Order (one_part l)) ≡ None)) (met _ loop other h)
+    let loop = loop_over_descendants setting place asks (operators.Let binder) source binder in
+    subst (λ (l : PlanExpression). IsNormal setting l × (slashes setting (made_operator setting.schemas order operators.Order (one_part l)) ≡ None)) (met _ loop other h)
     ((all_none setting loop refl refl, (n.1.0, (step_is_normal setting place asks binder.variable, tt))), refl)
 descends_from setting order place asks outer carried _ source body other n h = absurd (cc)
 
 descends : (setting : RuleSetting) (order : Place) (asks : Test) (e other : PlanExpression) → IsNormal setting e
-    → descending setting asks e ≡ Some other
-    → IsNormal setting other × (slashes setting (made setting.schemas order operators.Order (one_part other)) ≡ None)
+    → with_steps_below setting asks e ≡ Some other
+    → IsNormal setting other × (slashes setting (made_operator setting.schemas order operators.Order (one_part other)) ≡ None)
 descends setting order asks (At place outer carried operator (a_part source (a_part body no_parts))) other n h =
     descends_from setting order place asks outer carried operator source body other n h
 descends setting order asks (At place outer carried operator _) other n h = absurd (cc)
@@ -264,8 +264,8 @@ without_order_is_normal setting (At place outer carried _ _) n = n
 
 ordered_over : (setting : RuleSetting) (place : Place) (found : Option PlanExpression) (other : PlanExpression)
     → ((e : PlanExpression) → found ≡ Some e
-    → IsNormal setting e × (slashes setting (made setting.schemas place operators.Order (one_part e)) ≡ None))
-    → in_order setting.schemas place found ≡ Some other → IsOrderOver setting other
+    → IsNormal setting e × (slashes setting (made_operator setting.schemas place operators.Order (one_part e)) ≡ None))
+    → ordered_operand setting.schemas place found ≡ Some other → IsOrderOver setting other
 ordered_over setting place None other k h = absurd (cc)
 ordered_over setting place (Some e) other k h =
     let facts = k e refl in
@@ -274,7 +274,7 @@ ordered_over setting place (Some e) other k h =
 slashes_over_order : (setting : RuleSetting) (place : Place) (variable : ℕ) (source body other : PlanExpression) → IsNormal setting source
     → slashes_over setting place variable source body ≡ Some other → IsOrderOver setting other
 slashes_over_order setting place variable source (At p o c (operators.Step axes.Child asks number) no_parts) other n h =
-    ordered_over setting place (descending setting asks (without_order source)) other
+    ordered_over setting place (with_steps_below setting asks (without_order source)) other
     (λ e found. descends setting place asks (without_order source) e (without_order_is_normal setting source n) found)
     (if_some (nat_eq number variable) _ other h)
 slashes_over_order setting place variable source (At p o c _ _) other n h = absurd (cc)
@@ -290,7 +290,7 @@ slashes_give_order setting place outer carried _ _ other n h = absurd (cc)
 
 -- rules lead from an expression to another, which is normal
 pub record BecomesNormal (setting : RuleSetting) (e other : PlanExpression) : Type 0 where
-  pub reached : Reaches setting e other
+  pub reached : PlanReaches setting e other
   pub normal : IsNormal setting other
 
 behind_slashes : (setting : RuleSetting) (e other : PlanExpression) → StepsTo setting e other → IsOrderOver setting other
@@ -298,7 +298,7 @@ behind_slashes : (setting : RuleSetting) (e other : PlanExpression) → StepsTo 
 behind_slashes setting e other first over = by_case (simplified setting other) refl
   where
     order : PlanExpression
-    order = made setting.schemas over.place operators.Order (one_part over.operand)
+    order = made_operator setting.schemas over.place operators.Order (one_part over.operand)
     by_case : (found : Option PlanExpression) → simplified setting other ≡ found → BecomesNormal setting e (unwrap_or found other)
     by_case None h = record {
       reached = by_one (StepsTo setting) e other first;
@@ -325,7 +325,7 @@ becomes_normal setting place outer carried operator parts n = by_case (simplifie
     e : PlanExpression
     e = At place outer carried operator parts
     by_case : (found below : Option PlanExpression) → simplified setting e ≡ found → slashes setting e ≡ below
-        → BecomesNormal setting e (unwrap_or (or_else found (option_map (λ other. unwrap_or (simplified setting other) other) below)) e)
+        → BecomesNormal setting e (unwrap_or (one_or_other found (option_map (λ other. unwrap_or (simplified setting other) other) below)) e)
     by_case (Some other) below h k =
         let done = simplifies setting place outer carried operator parts other n h in
         record { reached = by_one (StepsTo setting) e other done.0; normal = done.1 }

@@ -5,8 +5,8 @@ use Rattle.gx_core.specs.declared.operator.Operator.{Operator}
 use Rattle.gx_core.specs.Expression.{Expression, At, Parts, no_parts, a_part}
 use Rattle.gx_plan.specs.declared.plan.Carried.{Carried}
 use Rattle.gx_plan.specs.Plan.{PlanExpression}
-use Rattle.gx_rules.specs.Rules.{RuleSetting, Rule, applied}
-use Rattle.gx_rules.specs.Normal.{Applies, StepsTo, PartStepsTo, ReachesIn, ReachesBy, Reaches}
+use Rattle.gx_rules.specs.Rules.{RuleSetting, RewritingRule, rewritten_by}
+use Rattle.gx_rules.specs.Normal.{Applies, StepsTo, PartStepsTo, ReachesIn, ReachesBy, PlanReaches}
 
 pub stays : {P : Type 0} (Steps : P → P → Type 0) (p : P) → ReachesBy Steps p p
 stays Steps p = record { applications = 0; reached = refl }
@@ -39,7 +39,7 @@ pub reaches_inside : {P Q : Type 0} (Steps : P → P → Type 0) (More : Q → Q
 reaches_inside Steps More f step p other h =
     record { applications = h.applications; reached = carried_over Steps More f step h.applications p other h.reached }
 
-pub by_rule : (setting : RuleSetting) (e other : PlanExpression) (rule : Rule) → applied setting rule e ≡ Some other → StepsTo setting e other
+pub by_rule : (setting : RuleSetting) (e other : PlanExpression) (rule : RewritingRule) → rewritten_by setting rule e ≡ Some other → StepsTo setting e other
 by_rule setting (At place outer carried operator parts) other rule h = inl (record { rule = rule; gives = h })
 
 pub step_in_parts : (setting : RuleSetting) (place outer : Place) (carried : Carried) (operator : Operator) (parts others : Parts Carried)

@@ -8,7 +8,7 @@ use Rattle.gx_plan.specs.declared.plan.Carried.{Carried}
 use Rattle.gx_plan.specs.Plan.{PlanExpression, PlanQuery}
 use Rattle.gx_plan.specs.Remaking.{remade, parts_remade, declaration_remade, query_remade}
 use Rattle.gx_rules.specs.Rules.{RuleSetting}
-use Rattle.gx_rules.specs.Normal.{StepsTo, PartStepsTo, DeclarationStepsTo, DeclarationsStepTo, QueryStepsTo, ReachesBy, Reaches, IsNormal, AreNormal, IsNormalDeclaration, AreNormalDeclarations, IsRewritten}
+use Rattle.gx_rules.specs.Normal.{StepsTo, PartStepsTo, DeclarationStepsTo, DeclarationsStepTo, QueryStepsTo, ReachesBy, PlanReaches, IsNormal, AreNormal, IsNormalDeclaration, AreNormalDeclarations, IsRewritten}
 use Rattle.gx_rewrite.specs.Rewriting.{rewritten_operator, rewritten}
 use Rattle.gx_rewrite.proofs.Reaching.{stays, then_reaches, reaches_inside, step_in_parts, step_in_first, step_in_others}
 use Rattle.gx_rewrite.proofs.NormalForms.{BecomesNormal, becomes_normal}
@@ -105,13 +105,13 @@ query_is_rewritten setting query =
     let body = is_rewritten setting query.body in
     let ds = map (declaration_remade (rewritten_operator setting)) query.declarations in
     let with_declarations : List (Declaration Carried) → PlanQuery = λ cs. record { declarations = cs; body = query.body } in
-    let with_body : PlanExpression → PlanQuery = λ e. record { declarations = ds; body = e } in
+    let function_over : PlanExpression → PlanQuery = λ e. record { declarations = ds; body = e } in
     record {
       reached =
-          then_reaches (QueryStepsTo setting) query (with_declarations ds) (with_body (rewritten setting query.body))
+          then_reaches (QueryStepsTo setting) query (with_declarations ds) (function_over (rewritten setting query.body))
           (reaches_inside (DeclarationsStepTo setting) (QueryStepsTo setting) with_declarations (λ cs others h. inl (h, refl)) query.declarations ds
           declared.reached)
-          (reaches_inside (StepsTo setting) (QueryStepsTo setting) with_body (λ e other h. inr (refl, h)) query.body (rewritten setting query.body)
+          (reaches_inside (StepsTo setting) (QueryStepsTo setting) function_over (λ e other h. inr (refl, h)) query.body (rewritten setting query.body)
           body.reached);
       normal = record { declarations = declared.normal; body = body.normal };
     }

@@ -48,15 +48,15 @@ abbrev pub reaches_all_below : Option Binder → PlanExpression → Bool
 reaches_all_below None body = false
 reaches_all_below (Some binder) body = is_step_to_all_below binder.variable body
 
-abbrev pub is_descending : PlanExpression → Bool
-is_descending (At place outer carried operator (a_part source (a_part body no_parts))) =
+abbrev pub steps_to_all_below : PlanExpression → Bool
+steps_to_all_below (At place outer carried operator (a_part source (a_part body no_parts))) =
     is_own_role carried.role && reaches_all_below (binds_alone operator) body
-is_descending _ = false
+steps_to_all_below _ = false
 
 -- an operand of `order` over which `slashes` applies
 abbrev pub is_slashed : PlanExpression → Bool
 is_slashed (At place outer carried (operators.For binder zero) (a_part source (a_part body no_parts))) =
-    is_own_role carried.role && (is_child_step_from binder.variable body && is_descending (without_order source))
+    is_own_role carried.role && (is_child_step_from binder.variable body && steps_to_all_below (without_order source))
 is_slashed _ = false
 
 -- ---- joins, from the body of the outer loop inwards
@@ -90,8 +90,8 @@ abbrev pub marked_comparison : SchemaSet → PlanExpression → PlanExpression
 marked_comparison schemas (At place outer carried (operators.Binary operator) parts) = made_as roles.InJoin schemas place (operators.Binary operator) parts
 marked_comparison schemas e = e
 
-abbrev pub place_of : PlanExpression → Place
-place_of (At place outer carried operator parts) = place
+abbrev pub place_of_operator : PlanExpression → Place
+place_of_operator (At place outer carried operator parts) = place
 
 abbrev pub is_test_of_binary : PlanExpression → Bool
 is_test_of_binary (At place outer carried operators.If (a_part comparison (a_part result (a_part absent no_parts)))) = is_binary comparison
@@ -100,7 +100,7 @@ is_test_of_binary _ = false
 abbrev pub marked_test : SchemaSet → PlanExpression → PlanExpression
 marked_test schemas (At place outer carried operators.If (a_part comparison (a_part result (a_part absent no_parts)))) =
     made_as roles.InJoin schemas place operators.If
-    (three_parts (marked_comparison schemas comparison) result (made_as roles.InJoin schemas (place_of absent) operators.Empty no_parts))
+    (three_parts (marked_comparison schemas comparison) result (made_as roles.InJoin schemas (place_of_operator absent) operators.Empty no_parts))
 marked_test schemas e = e
 
 abbrev pub is_loop_of_test : PlanExpression → Bool

@@ -6,7 +6,7 @@ ghost use Rattle.gx_core.specs.Bindings.{Types};
 ghost use Rattle.gx_core.specs.Expression.{At, a_part, all_parts, one_part};
 ghost use Rattle.gx_plan.specs.Plan.{kind_carried};
 ghost use Rattle.gx_rules.specs.Guards.{is_flat};
-ghost use Rattle.gx_rules.specs.Rules.{any_atomic_values, binder_of, made_let};
+ghost use Rattle.gx_rules.specs.Rules.{any_atomic_values, plain_binder, made_let};
 ghost use Rattle.gx_rewrite.specs.Rewriting.{rewritten_at};
 ghost use Rattle.gx_rewrite.specs.Shapes.{is_decided, chosen_variable, is_idle_call};
 
@@ -100,7 +100,7 @@ fn chosen(
     flat: bool,
 ) -> Result<(PlanExpr, bool), AllocError>
     requires { flat ≡ is_flat branch }
-    ensures made { IfOk result (λ r. r.0 ≡ made_let schemas.now place (binder_of variable place) operand.value branch) }
+    ensures made { IfOk result (λ r. r.0 ≡ made_let schemas.now place (plain_binder variable place) operand.value branch) }
     ensures flat { IfOk result (λ r. r.1 ≡ is_flat r.0) }
 {
     let binder = Binder {

@@ -6,7 +6,7 @@ ghost use Rattle.gx_core.specs.Expression.{no_parts};
 ghost use Rattle.gx_plan.specs.declared.plan.Role.TheVariants.{InJoin};
 ghost use Rattle.gx_rules.specs.Guards.{is_flat};
 ghost use Rattle.gx_rules.specs.Rules.{made_as, may_be_joined};
-ghost use Rattle.gx_rewrite.specs.Shapes.{is_empty_operator, is_join_loop, joins_by_keys, joins_by_loop, joins_by_test, is_binary, is_test_of_binary, is_loop_of_test, marked_comparison, marked_test, marked_loop, marked_join, place_of};
+ghost use Rattle.gx_rewrite.specs.Shapes.{is_empty_operator, is_join_loop, joins_by_keys, joins_by_loop, joins_by_test, is_binary, is_test_of_binary, is_loop_of_test, marked_comparison, marked_test, marked_loop, marked_join, place_of_operator};
 
 use crate::order::is_own;
 use crate::parts::{three, two};
@@ -196,7 +196,7 @@ fn marked_absence(
     schemas: &Schemas,
     absent: PlanPart,
 ) -> Result<PlanExpr, AllocError>
-    ensures { IfOk result (λ e. e ≡ made_as InJoin schemas.now (place_of absent.value) operators.Empty no_parts) }
+    ensures { IfOk result (λ e. e ≡ made_as InJoin schemas.now (place_of_operator absent.value) operators.Empty no_parts) }
 {
     let (place, _outer, _carried, _form) = Box::into_inner(absent).into_parts();
     made_as(alloc, schemas, Role::InJoin, place, Operator::Empty, Vec::new(alloc))

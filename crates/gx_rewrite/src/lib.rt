@@ -3,6 +3,7 @@
 
 mod choices;
 mod joins;
+pub mod laws;
 mod loops;
 mod order;
 mod parts;

@@ -6,9 +6,9 @@ ghost use Rattle.gx_core.specs.declared.operator.Operator.TheVariants as operato
 ghost use Rattle.gx_core.specs.Expression.{At, one_part};
 ghost use Rattle.gx_plan.specs.declared.plan.Carried.{Carried as CarriedByPlan};
 ghost use Rattle.gx_rules.specs.Guards.{is_flat, is_own_role};
-ghost use Rattle.gx_rules.specs.Rules.{made, descending, in_order, is_step_to_all_below, slashes, without_order};
+ghost use Rattle.gx_rules.specs.Rules.{made_operator, with_steps_below, ordered_operand, is_step_to_all_below, slashes, without_order};
 ghost use Rattle.gx_rewrite.specs.Rewriting.{rewritten_at};
-ghost use Rattle.gx_rewrite.specs.Shapes.{is_in_order, is_slashed, is_child_step_from, is_descending};
+ghost use Rattle.gx_rewrite.specs.Shapes.{is_in_order, is_slashed, is_child_step_from, steps_to_all_below};
 
 use crate::parts::{one, two};
 use gx_base::place::Place;
@@ -78,7 +78,7 @@ fn in_order(
     flat: bool,
 ) -> Result<(PlanExpr, bool), AllocError>
     requires { flat ≡ is_flat operand }
-    ensures made { IfOk result (λ r. r.0 ≡ (if is_in_order operand then operand else made schemas.now place operators.Order (one_part operand))) }
+    ensures made { IfOk result (λ r. r.0 ≡ (if is_in_order operand then operand else made_operator schemas.now place operators.Order (one_part operand))) }
     ensures flat { IfOk result (λ r. r.1 ≡ is_flat r.0) }
 {
     if is_in_order(&operand, flat) {
@@ -121,7 +121,7 @@ fn is_child_step_from(variable: u32, body: &PlanExpr) -> bool
 }
 
 fn is_descending_in_order(source: &PlanExpr) -> bool
-    ensures { result ≡ is_descending (without_order source.now) }
+    ensures { result ≡ steps_to_all_below (without_order source.now) }
 {
     match &source.form {
         Form::Order(operand) => is_descending(operand),
@@ -131,7 +131,7 @@ fn is_descending_in_order(source: &PlanExpr) -> bool
 
 // Whether an expression is a loop or a `let` whose body is a step to all below the node of its variable.
 fn is_descending(expression: &PlanExpr) -> bool
-    ensures { result ≡ is_descending expression.now }
+    ensures { result ≡ steps_to_all_below expression.now }
 {
     match &expression.form {
         Form::For(binder, position, _, body) => {
@@ -164,7 +164,7 @@ fn slashed(
     operand: PlanExpr,
 ) -> Result<(PlanExpr, bool), AllocError>
     requires { is_slashed operand ≡ true }
-    ensures made { (place outer : PlaceInText) → (carried : CarriedByPlan) → IfOk result (λ r. slashes (record { schemas = schemas.now; variables = variables.now }) (At place outer carried operators.Order (one_part operand)) ≡ in_order schemas.now place (Some r.0)) }
+    ensures made { (place outer : PlaceInText) → (carried : CarriedByPlan) → IfOk result (λ r. slashes (record { schemas = schemas.now; variables = variables.now }) (At place outer carried operators.Order (one_part operand)) ≡ ordered_operand schemas.now place (Some r.0)) }
     ensures flat { IfOk result (λ r. r.1 ≡ is_flat r.0) }
 {
     let (_place, _outer, _carried, form) = operand.into_parts();
@@ -205,8 +205,8 @@ fn descending(
     test: Test,
     expression: PlanExpr,
 ) -> Result<(PlanExpr, bool), AllocError>
-    requires { is_descending expression ≡ true }
-    ensures made { IfOk result (λ r. descending (record { schemas = schemas.now; variables = variables.now }) test expression ≡ Some r.0) }
+    requires { steps_to_all_below expression ≡ true }
+    ensures made { IfOk result (λ r. with_steps_below (record { schemas = schemas.now; variables = variables.now }) test expression ≡ Some r.0) }
     ensures flat { IfOk result (λ r. r.1 ≡ is_flat r.0) }
 {
     let (place, _outer, _carried, form) = expression.into_parts();

@@ -9,7 +9,7 @@ ghost use Rattle.gx_static.specs.Rule.{arity};
 ghost use Rattle.gx_plan.specs.Operands.{HasPlaceFor};
 ghost use Rattle.gx_plan.specs.Plan.{kind_carried};
 ghost use Rattle.gx_steptype.specs.StepType.{any_item};
-ghost use Rattle.gx_rules.specs.Rules.{made_as, made_kind, made_step, step_kinds, occurs_once, IsStep};
+ghost use Rattle.gx_rules.specs.Rules.{made_as, made_kind, made_step, step_kinds, occurs_once, IsStepOperator};
 
 use gx_base::place::Place;
 use gx_core::operator::Operator;
@@ -141,7 +141,7 @@ fn kind_of_step(
     operator: &Operator,
     variable: u32,
 ) -> Result<Ty, AllocError>
-    requires { IsStep operator.now }
+    requires { IsStepOperator operator.now }
     ensures { IfOk result (λ t. t ≡ made_kind schemas.now operator.now (step_kinds (look_up variables.now variable))) }
 {
     match variables.find(variable) {
