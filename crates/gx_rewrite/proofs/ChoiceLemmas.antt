@@ -1,19 +1,14 @@
 -- What becomes of switches, calls and typed values.
-use Rattle.std.proofs.Common.{◌≡◌, ℕ, zero, suc, nat_eq, Bool, true, false, not, ◌&&◌, List, [], ◌∷◌, length, map, Option, None, Some, unwrap_or, refl, sym, ◌∙◌, ap}
-use Rattle.gx_base.specs.declared.type_name.Builtin.TheVariants.{Boolean}
+use Rattle.std.proofs.Common.{◌≡◌, ℕ, true, false, List, [], ◌∷◌, map, Option, None, Some, unwrap_or, refl, ◌∙◌, ap}
 use Rattle.gx_include.specs.Decision.{is_included}
 use Rattle.gx_funcs.specs.declared.function.Function.{Function}
 use Rattle.gx_funcs.specs.declared.function.Function.TheVariants as functions
 use Rattle.gx_core.specs.declared.cases.TypeCase.{TypeCase}
 use Rattle.gx_base.specs.declared.place.Place.{Place}
-use Rattle.gx_types.specs.SchemaSet.{SchemaSet}
-use Rattle.gx_core.specs.declared.expression.Binder.{Binder}
-use Rattle.gx_core.specs.declared.operator.Operator.{Operator}
 use Rattle.gx_core.specs.declared.operator.Operator.TheVariants as operators
-use Rattle.gx_core.specs.Expression.{Expression, At, Parts, no_parts, a_part, all_parts, each_of, one_part, two_parts, three_parts}
+use Rattle.gx_core.specs.Expression.{At, a_part, all_parts, each_of, one_part}
 use Rattle.gx_plan.specs.declared.plan.Carried.{Carried}
 use Rattle.gx_plan.specs.Plan.{PlanExpression, kind_carried}
-use Rattle.gx_static.specs.Rule.{atomic}
 use Rattle.gx_rules.specs.Guards.{is_flat}
 use Rattle.gx_rules.specs.Rules.{RuleSetting, if_guarded, made_let, plain_binder, any_atomic_values}
 use Rattle.gx_rewrite.specs.Rewriting.{one_or_other, rewritten_at}

@@ -1,13 +1,11 @@
 -- Facts of parts, and operators that no rule has on its left side.
-use Rattle.std.proofs.Common.{◌≡◌, Bool, true, false, List, [], ◌∷◌, map, refl, sym, ◌∙◌, ap}
+use Rattle.std.proofs.Common.{◌≡◌, Bool, false, List, [], ◌∷◌, map, refl, sym, ◌∙◌, ap}
 use Rattle.gx_base.specs.declared.place.Place.{Place}
-use Rattle.gx_types.specs.SchemaSet.{SchemaSet}
-use Rattle.gx_core.specs.declared.expression.Binder.{Binder}
 use Rattle.gx_core.specs.declared.operator.Operator.{Operator}
 use Rattle.gx_core.specs.declared.operator.Operator.TheVariants as operators
-use Rattle.gx_core.specs.Expression.{Expression, At, Parts, no_parts, a_part, all_parts, each_of, one_part, two_parts, three_parts}
+use Rattle.gx_core.specs.Expression.{At, Parts, all_parts, each_of}
 use Rattle.gx_plan.specs.declared.plan.Carried.{Carried}
-use Rattle.gx_plan.specs.Plan.{PlanExpression, kind_carried}
+use Rattle.gx_plan.specs.Plan.{PlanExpression}
 use Rattle.gx_rules.specs.Guards.{is_flat}
 use Rattle.gx_rules.specs.Rules.{RuleSetting}
 use Rattle.gx_rewrite.specs.Rewriting.{rewritten_at}

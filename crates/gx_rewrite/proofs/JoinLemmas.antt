@@ -1,13 +1,11 @@
 -- Loops that are joins have a test, which has a comparison.
-use Rattle.std.proofs.Common.{◌≡◌, ℕ, zero, suc, Bool, true, false, ◌&&◌, ◌||◌, refl}
+use Rattle.std.proofs.Common.{◌≡◌, ℕ, zero, Bool, true, false, ◌&&◌, ◌||◌, refl}
 use Rattle.gx_core.specs.declared.expression.BinaryOp.TheVariants as binary
 use Rattle.gx_base.specs.declared.place.Place.{Place}
 use Rattle.gx_types.specs.SchemaSet.{SchemaSet}
 use Rattle.gx_core.specs.declared.expression.Binder.{Binder}
-use Rattle.gx_core.specs.declared.operator.Operator.{Operator}
 use Rattle.gx_core.specs.declared.operator.Operator.TheVariants as operators
-use Rattle.gx_core.specs.Expression.{Expression, At, Parts, no_parts, a_part, all_parts, each_of, one_part, two_parts, three_parts}
-use Rattle.gx_plan.specs.declared.plan.Carried.{Carried}
+use Rattle.gx_core.specs.Expression.{At, no_parts, a_part}
 use Rattle.gx_plan.specs.Plan.{PlanExpression, kind_carried}
 use Rattle.gx_rules.specs.Guards.{is_own_role, is_flat}
 use Rattle.gx_static.specs.Rule.{is_at_most_one}

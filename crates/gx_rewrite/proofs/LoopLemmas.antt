@@ -1,21 +1,20 @@
 -- What becomes of a loop.
-use Rattle.std.proofs.Common.{◌≡◌, ℕ, zero, suc, nat_eq, Bool, true, false, ◌&&◌, Option, None, Some, unwrap_or, refl, sym, ◌∙◌, ap, if◌then◌else◌}
+use Rattle.std.proofs.Common.{◌≡◌, ℕ, zero, suc, nat_eq, Bool, true, false, ◌&&◌, Option, None, Some, unwrap_or, refl, ◌∙◌, ap, if◌then◌else◌}
 use Rattle.std.proofs.Math.Dec.{eqb-suc-zero}
 use Rattle.gx_core.specs.declared.expression.BinaryOp.TheVariants as binary
 use Rattle.gx_base.specs.declared.place.Place.{Place}
 use Rattle.gx_types.specs.SchemaSet.{SchemaSet}
 use Rattle.gx_core.specs.declared.expression.Binder.{Binder}
-use Rattle.gx_core.specs.declared.operator.Operator.{Operator}
 use Rattle.gx_core.specs.declared.operator.Operator.TheVariants as operators
-use Rattle.gx_core.specs.Expression.{Expression, At, Parts, no_parts, a_part, all_parts, each_of, one_part, two_parts, three_parts}
+use Rattle.gx_core.specs.Expression.{At, no_parts, a_part, two_parts, three_parts}
 use Rattle.gx_plan.specs.declared.plan.Carried.{Carried}
 use Rattle.gx_plan.specs.Plan.{PlanExpression, kind_carried}
 use Rattle.gx_rules.specs.Guards.{is_own_role}
 use Rattle.gx_plan.specs.declared.plan.Role.{Role}
 use Rattle.gx_plan.specs.declared.plan.Role.TheVariants as roles
-use Rattle.gx_rules.specs.Rules.{RuleSetting, if_guarded, made_as, made_let, with_position, occurs_once, single_loop, join, join_by_loop, join_by_test, join_by_keys, marked_loops, Loop}
-use Rattle.gx_rewrite.specs.Rewriting.{one_or_other, simplified, rewritten_at}
-use Rattle.gx_rewrite.specs.Shapes.{is_join_loop, joins_by_loop, joins_by_test, joins_by_keys, is_empty_operator, marked_comparison, marked_test, marked_loop, marked_join}
+use Rattle.gx_rules.specs.Rules.{RuleSetting, if_guarded, made_as, made_let, with_position, occurs_once, join, join_by_loop, join_by_test, join_by_keys, marked_loops, Loop}
+use Rattle.gx_rewrite.specs.Rewriting.{one_or_other, rewritten_at}
+use Rattle.gx_rewrite.specs.Shapes.{is_join_loop, joins_by_loop, joins_by_test, joins_by_keys, is_empty_operator, marked_comparison, marked_test, marked_join}
 
 -- its source has one item
 pub single_applies : (setting : RuleSetting) (place outer : Place) (carried : Carried) (binder : Binder) (position : ℕ) (source body : PlanExpression)

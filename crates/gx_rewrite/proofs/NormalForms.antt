@@ -1,5 +1,5 @@
 -- What becomes of an operator whose parts are normal: rules lead to it, and no rule applies to it.
-use Rattle.std.proofs.Common.{◌≡◌, ℕ, zero, suc, nat_eq, Bool, true, false, ◌&&◌, Option, None, Some, unwrap_or, option_map, List, [], ◌∷◌, refl, sym, ◌∙◌, ap, subst, if◌then◌else◌, ◌⊎◌, inl, inr}
+use Rattle.std.proofs.Common.{◌≡◌, ℕ, zero, suc, nat_eq, Bool, true, false, ◌&&◌, Option, None, Some, unwrap_or, option_map, [], ◌∷◌, refl, sym, ◌∙◌, ap, subst, if◌then◌else◌, ◌⊎◌, inl, inr}
 use Rattle.gx_base.specs.declared.place.Place.{Place}
 use Rattle.gx_types.specs.SchemaSet.{SchemaSet}
 use Rattle.gx_types.specs.declared.step.Axis.TheVariants as axes
@@ -9,16 +9,15 @@ use Rattle.gx_core.specs.declared.expression.Binder.{Binder}
 use Rattle.gx_core.specs.declared.expression.BinaryOp.TheVariants as binary
 use Rattle.gx_core.specs.declared.operator.Operator.{Operator}
 use Rattle.gx_core.specs.declared.operator.Operator.TheVariants as operators
-use Rattle.gx_core.specs.Expression.{Expression, At, Parts, no_parts, a_part, one_part, two_parts}
+use Rattle.gx_core.specs.Expression.{At, Parts, no_parts, a_part, one_part, two_parts}
 use Rattle.gx_plan.specs.declared.plan.Carried.{Carried}
-use Rattle.gx_plan.specs.declared.plan.Role.TheVariants as roles
-use Rattle.gx_plan.specs.Plan.{PlanExpression, own, kind_carried}
-use Rattle.gx_rules.specs.Guards.{is_own_role, is_sorted, is_flat}
-use Rattle.gx_rules.specs.Rules.{RuleSetting, RewritingRule, One, Sorted, Flat, Slashes, Single, Decided, Idle, Joins, rewritten_by, if_guarded, made_operator, made_as, made_let, made_step, plain_binder}
+use Rattle.gx_plan.specs.Plan.{PlanExpression, kind_carried}
+use Rattle.gx_rules.specs.Guards.{is_own_role}
+use Rattle.gx_rules.specs.Rules.{RuleSetting, RewritingRule, One, Sorted, Flat, Slashes, Single, Decided, Idle, Joins, rewritten_by, if_guarded, made_operator, made_let, made_step, plain_binder}
 use Rattle.gx_rules.specs.Rules.{one, order_of_sorted, flat, slashes, slashes_over, ordered_operand, with_steps_below, descending_from, loop_over_descendants, binds_alone, without_order}
-use Rattle.gx_rules.specs.Rules.{single_loop, with_position, first_position, occurs_once, decided_switch, idle, join, join_by_loop, join_by_test, join_by_keys, may_be_joined, marked_loops, Loop}
-use Rattle.gx_rules.specs.Normal.{Applies, StepsTo, PlanReaches, IsNormal, AreNormal}
-use Rattle.gx_rewrite.specs.Rewriting.{one_or_other, without_need_of_order, simplified, descended, rewritten_at}
+use Rattle.gx_rules.specs.Rules.{single_loop, with_position, first_position, occurs_once, decided_switch, idle, join, join_by_loop, join_by_test, join_by_keys, marked_loops, Loop}
+use Rattle.gx_rules.specs.Normal.{StepsTo, PlanReaches, IsNormal, AreNormal}
+use Rattle.gx_rewrite.specs.Rewriting.{one_or_other, without_need_of_order, simplified, rewritten_at}
 use Rattle.gx_rewrite.proofs.Reaching.{stays, by_one, then_reaches, by_rule}
 
 -- ---- options
@@ -67,20 +66,28 @@ all_none setting e s d rule = no_rule rule
   where
     schemas : SchemaSet
     schemas = setting.schemas
+
     behind : Option PlanExpression
     behind = one_or_other (single_loop schemas e) (one_or_other (join schemas e) (one_or_other (decided_switch schemas e) (idle schemas e)))
+
     order_kept : (without_need_of_order e ≡ None) × (behind ≡ None)
     order_kept = none_of (without_need_of_order e) behind s
+
     not_one : (one e ≡ None) × (one_or_other (order_of_sorted e) (flat e) ≡ None)
     not_one = none_of (one e) (one_or_other (order_of_sorted e) (flat e)) order_kept.0
+
     not_sorted : (order_of_sorted e ≡ None) × (flat e ≡ None)
     not_sorted = none_of (order_of_sorted e) (flat e) not_one.1
+
     not_single : (single_loop schemas e ≡ None) × (one_or_other (join schemas e) (one_or_other (decided_switch schemas e) (idle schemas e)) ≡ None)
     not_single = none_of (single_loop schemas e) (one_or_other (join schemas e) (one_or_other (decided_switch schemas e) (idle schemas e))) order_kept.1
+
     not_joined : (join schemas e ≡ None) × (one_or_other (decided_switch schemas e) (idle schemas e) ≡ None)
     not_joined = none_of (join schemas e) (one_or_other (decided_switch schemas e) (idle schemas e)) not_single.1
+
     not_decided : (decided_switch schemas e ≡ None) × (idle schemas e ≡ None)
     not_decided = none_of (decided_switch schemas e) (idle schemas e) not_joined.1
+
     no_rule : (rule : RewritingRule) → rewritten_by setting rule e ≡ None
     no_rule One = not_one.0
     no_rule Sorted = not_sorted.0
@@ -150,11 +157,28 @@ idle_is_normal setting place outer carried _ _ other n h = absurd (cc)
 joined_is_normal : (setting : RuleSetting) (outer inner : Loop) (test comparison absent : Place) (left_key right_key result : PlanExpression)
     → IsNormal setting outer.source → IsNormal setting inner.source → IsNormal setting left_key → IsNormal setting right_key
     → IsNormal setting result → IsNormal setting (marked_loops setting.schemas outer inner test comparison absent left_key right_key result)
-joined_is_normal setting outer inner test comparison absent left_key right_key result s t l r e =
-    (all_none setting _ refl refl, (s,
-    ((all_none setting _ refl refl, (t,
-    ((all_none setting _ refl refl,
-    ((all_none setting _ refl refl, (l, (r, tt))), (e, ((all_none setting _ refl refl, tt), tt)))), tt))), tt)))
+joined_is_normal setting outer inner test comparison absent left_key right_key result s t l r e = (
+  all_none setting _ refl refl,
+  (
+    s,
+    (
+      (
+        all_none setting _ refl refl,
+        (
+          t,
+          (
+            (
+              all_none setting _ refl refl,
+              ((all_none setting _ refl refl, (l, (r, tt))), (e, ((all_none setting _ refl refl, tt), tt))),
+            ),
+            tt,
+          ),
+        ),
+      ),
+      tt,
+    ),
+  ),
+)
 
 keys_are_normal : (setting : RuleSetting) (outer inner : Loop) (test absent : Place) (result comparison other : PlanExpression)
     → IsNormal setting outer.source → IsNormal setting inner.source → IsNormal setting result → IsNormal setting comparison
@@ -196,26 +220,34 @@ simplifies setting place outer carried operator parts other n h = by_kind (some_
   where
     e : PlanExpression
     e = At place outer carried operator parts
+
     schemas : SchemaSet
     schemas = setting.schemas
+
     behind : Option PlanExpression
     behind = one_or_other (single_loop schemas e) (one_or_other (join schemas e) (one_or_other (decided_switch schemas e) (idle schemas e)))
+
     by_last : (decided_switch schemas e ≡ Some other) ⊎ (idle schemas e ≡ Some other) → Simplifies setting e other
     by_last (inl k) = (by_rule setting e other Decided k, decided_is_normal setting place outer carried operator parts other n k)
     by_last (inr k) = (by_rule setting e other Idle k, idle_is_normal setting place outer carried operator parts other n k)
+
     by_join : (join schemas e ≡ Some other) ⊎ (one_or_other (decided_switch schemas e) (idle schemas e) ≡ Some other) → Simplifies setting e other
     by_join (inl k) = (by_rule setting e other Joins k, join_is_normal setting place outer carried operator parts other n k)
     by_join (inr k) = by_last (some_of (decided_switch schemas e) (idle schemas e) other k)
+
     by_single : (single_loop schemas e ≡ Some other) ⊎ (one_or_other (join schemas e) (one_or_other (decided_switch schemas e) (idle schemas e)) ≡ Some other)
         → Simplifies setting e other
     by_single (inl k) = (by_rule setting e other Single k, single_is_normal setting place outer carried operator parts other n k)
     by_single (inr k) = by_join (some_of (join schemas e) (one_or_other (decided_switch schemas e) (idle schemas e)) other k)
+
     by_flat : (order_of_sorted e ≡ Some other) ⊎ (flat e ≡ Some other) → Simplifies setting e other
     by_flat (inl k) = (by_rule setting e other Sorted k, sorted_is_normal setting place outer carried operator parts other n k)
     by_flat (inr k) = (by_rule setting e other Flat k, flat_is_normal setting place outer carried operator parts other n k)
+
     by_order : (one e ≡ Some other) ⊎ (one_or_other (order_of_sorted e) (flat e) ≡ Some other) → Simplifies setting e other
     by_order (inl k) = (by_rule setting e other One k, one_is_normal setting place outer carried operator parts other n k)
     by_order (inr k) = by_flat (some_of (order_of_sorted e) (flat e) other k)
+
     by_kind : (without_need_of_order e ≡ Some other) ⊎ (behind ≡ Some other) → Simplifies setting e other
     by_kind (inl k) = by_order (some_of (one e) (one_or_other (order_of_sorted e) (flat e)) other k)
     by_kind (inr k) = by_single (some_of (single_loop schemas e) (one_or_other (join schemas e) (one_or_other (decided_switch schemas e) (idle schemas e))) other k)
@@ -299,6 +331,7 @@ behind_slashes setting e other first over = by_case (simplified setting other) r
   where
     order : PlanExpression
     order = made_operator setting.schemas over.place operators.Order (one_part over.operand)
+
     by_case : (found : Option PlanExpression) → simplified setting other ≡ found → BecomesNormal setting e (unwrap_or found other)
     by_case None h = record {
       reached = by_one (StepsTo setting) e other first;
@@ -324,6 +357,7 @@ becomes_normal setting place outer carried operator parts n = by_case (simplifie
   where
     e : PlanExpression
     e = At place outer carried operator parts
+
     by_case : (found below : Option PlanExpression) → simplified setting e ≡ found → slashes setting e ≡ below
         → BecomesNormal setting e (unwrap_or (one_or_other found (option_map (λ other. unwrap_or (simplified setting other) other) below)) e)
     by_case (Some other) below h k =

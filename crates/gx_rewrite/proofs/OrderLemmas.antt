@@ -7,17 +7,16 @@ use Rattle.gx_types.specs.declared.step.Axis.{Axis}
 use Rattle.gx_types.specs.declared.step.Axis.TheVariants as axes
 use Rattle.gx_types.specs.declared.step.Test.{Test}
 use Rattle.gx_base.specs.declared.place.Place.{Place}
-use Rattle.gx_types.specs.SchemaSet.{SchemaSet}
 use Rattle.gx_core.specs.declared.expression.Binder.{Binder}
 use Rattle.gx_core.specs.declared.operator.Operator.{Operator}
 use Rattle.gx_core.specs.declared.operator.Operator.TheVariants as operators
-use Rattle.gx_core.specs.Expression.{Expression, At, Parts, no_parts, a_part, annotation_of, all_parts, each_of, one_part, two_parts, three_parts}
+use Rattle.gx_core.specs.Expression.{At, no_parts, a_part, annotation_of, one_part, two_parts}
 use Rattle.gx_plan.specs.declared.plan.Carried.{Carried}
 use Rattle.gx_plan.specs.Plan.{PlanExpression, kind_carried}
 use Rattle.gx_static.specs.Rule.{is_at_most_one}
 use Rattle.gx_rules.specs.Guards.{is_own_role, is_sorted, is_flat}
-use Rattle.gx_rules.specs.Rules.{RuleSetting, if_guarded, made_operator, slashes, slashes_over, ordered_operand, with_steps_below, descending_from, loop_over_descendants, binds_alone, is_step_to_all_below, without_order}
-use Rattle.gx_rewrite.specs.Rewriting.{one_or_other, without_need_of_order, simplified, rewritten_at}
+use Rattle.gx_rules.specs.Rules.{RuleSetting, if_guarded, made_operator, slashes, slashes_over, ordered_operand, with_steps_below, descending_from, loop_over_descendants, binds_alone, without_order}
+use Rattle.gx_rewrite.specs.Rewriting.{one_or_other, simplified, rewritten_at}
 use Rattle.gx_rewrite.specs.Shapes.{is_in_order, is_slashed, is_child_step_from, steps_to_all_below, reaches_all_below}
 
 needless : (a b c : Bool) (e : PlanExpression) → a || (b || c) ≡ true → one_or_other (if_guarded a e) (one_or_other (if_guarded b e) (if_guarded c e)) ≡ Some e

@@ -1,12 +1,12 @@
 -- Chains of applications of rules.
-use Rattle.std.proofs.Common.{◌≡◌, ℕ, zero, suc, ◌+◌, refl, sym, ◌∙◌, ap, subst, ◌⊎◌, inl, inr, Option, Some, arith}
+use Rattle.std.proofs.Common.{◌≡◌, ℕ, zero, suc, ◌+◌, refl, sym, ap, subst, inl, inr, Some, arith}
 use Rattle.gx_base.specs.declared.place.Place.{Place}
 use Rattle.gx_core.specs.declared.operator.Operator.{Operator}
-use Rattle.gx_core.specs.Expression.{Expression, At, Parts, no_parts, a_part}
+use Rattle.gx_core.specs.Expression.{At, Parts, a_part}
 use Rattle.gx_plan.specs.declared.plan.Carried.{Carried}
 use Rattle.gx_plan.specs.Plan.{PlanExpression}
 use Rattle.gx_rules.specs.Rules.{RuleSetting, RewritingRule, rewritten_by}
-use Rattle.gx_rules.specs.Normal.{Applies, StepsTo, PartStepsTo, ReachesIn, ReachesBy, PlanReaches}
+use Rattle.gx_rules.specs.Normal.{StepsTo, PartStepsTo, ReachesIn, ReachesBy}
 
 pub stays : {P : Type 0} (Steps : P → P → Type 0) (p : P) → ReachesBy Steps p p
 stays Steps p = record { applications = 0; reached = refl }

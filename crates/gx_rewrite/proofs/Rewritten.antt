@@ -1,14 +1,13 @@
 -- What an expression is rewritten to, and what a query is.
-use Rattle.std.proofs.Common.{◌≡◌, List, [], ◌∷◌, map, Option, None, Some, option_map, refl, sym, ◌∙◌, ap, inl, inr}
-use Rattle.gx_core.specs.declared.expression.Binder.{Binder}
+use Rattle.std.proofs.Common.{List, [], ◌∷◌, map, None, Some, refl, inl, inr}
 use Rattle.gx_core.specs.declared.expression.Declaration.{Declaration}
 use Rattle.gx_core.specs.declared.expression.Declaration.TheVariants.{Global, Function}
-use Rattle.gx_core.specs.Expression.{Expression, At, Parts, no_parts, a_part}
+use Rattle.gx_core.specs.Expression.{At, Parts, no_parts, a_part}
 use Rattle.gx_plan.specs.declared.plan.Carried.{Carried}
 use Rattle.gx_plan.specs.Plan.{PlanExpression, PlanQuery}
-use Rattle.gx_plan.specs.Remaking.{remade, parts_remade, declaration_remade, query_remade}
+use Rattle.gx_plan.specs.Remaking.{parts_remade, declaration_remade, query_remade}
 use Rattle.gx_rules.specs.Rules.{RuleSetting}
-use Rattle.gx_rules.specs.Normal.{StepsTo, PartStepsTo, DeclarationStepsTo, DeclarationsStepTo, QueryStepsTo, ReachesBy, PlanReaches, IsNormal, AreNormal, IsNormalDeclaration, AreNormalDeclarations, IsRewritten}
+use Rattle.gx_rules.specs.Normal.{StepsTo, PartStepsTo, DeclarationStepsTo, DeclarationsStepTo, QueryStepsTo, ReachesBy, AreNormal, IsNormalDeclaration, AreNormalDeclarations, IsRewritten}
 use Rattle.gx_rewrite.specs.Rewriting.{rewritten_operator, rewritten}
 use Rattle.gx_rewrite.proofs.Reaching.{stays, then_reaches, reaches_inside, step_in_parts, step_in_first, step_in_others}
 use Rattle.gx_rewrite.proofs.NormalForms.{BecomesNormal, becomes_normal}

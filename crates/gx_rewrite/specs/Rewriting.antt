@@ -3,7 +3,7 @@ use Rattle.std.specs.Prelude.{Option, None, Some, option_map, unwrap_or}
 use Rattle.gx_base.specs.declared.place.Place.{Place}
 use Rattle.gx_types.specs.SchemaSet.{SchemaSet}
 use Rattle.gx_core.specs.declared.operator.Operator.{Operator}
-use Rattle.gx_core.specs.Expression.{Expression, At, Parts}
+use Rattle.gx_core.specs.Expression.{At, Parts}
 use Rattle.gx_plan.specs.declared.plan.Carried.{Carried}
 use Rattle.gx_plan.specs.declared.plan.Plan.{Plan}
 use Rattle.gx_plan.specs.Plan.{PlanExpression, PlanQuery}

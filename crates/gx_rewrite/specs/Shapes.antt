@@ -1,12 +1,12 @@
 -- What the rules that look inside their parts ask of an expression, as tests that make nothing.
-use Rattle.std.specs.Prelude.{ℕ, zero, suc, nat_eq, List, [], ◌∷◌, Bool, true, false, ◌&&◌, ◌||◌, Option, None, Some}
+use Rattle.std.specs.Prelude.{ℕ, zero, nat_eq, List, [], ◌∷◌, Bool, true, false, ◌&&◌, ◌||◌, Option, None, Some}
 use Rattle.gx_types.specs.SchemaSet.{SchemaSet}
 use Rattle.gx_types.specs.declared.step.Axis.TheVariants as axes
 use Rattle.gx_core.specs.declared.expression.Binder.{Binder}
 use Rattle.gx_core.specs.declared.expression.BinaryOp.TheVariants as binary
 use Rattle.gx_core.specs.declared.operator.Operator.{Operator}
 use Rattle.gx_core.specs.declared.operator.Operator.TheVariants as operators
-use Rattle.gx_core.specs.Expression.{Expression, At, Parts, no_parts, a_part, each_of, two_parts, three_parts}
+use Rattle.gx_core.specs.Expression.{At, no_parts, a_part, each_of, two_parts, three_parts}
 use Rattle.gx_base.specs.declared.type_name.Builtin.TheVariants.{Boolean}
 use Rattle.gx_types.specs.SequenceType.{SequenceType}
 use Rattle.gx_include.specs.Decision.{is_included}

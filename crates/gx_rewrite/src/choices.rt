@@ -46,11 +46,25 @@ pub(crate) fn switched(
     ensures made { (variables : Types) → IfOk result (λ r. r.0 ≡ rewritten_at (record { schemas = schemas.now; variables = variables }) (At place outer carried (operators.Switch cases default) (a_part operand.value (all_parts branches.items)))) }
     ensures flat { IfOk result (λ r. r.1 ≡ is_flat r.0) }
 {
-    if is_decided(alloc, schemas, &operand, cases.as_slice(), branches.as_slice())? {
+    if is_decided(
+        alloc,
+        schemas,
+        &operand,
+        cases.as_slice(),
+        branches.as_slice(),
+    )? {
         drop(carried);
         let variable = chosen_variable(cases.as_slice(), default);
         drop(cases);
-        return chosen(alloc, schemas, place, variable, operand, first_of(branches), flat[1]);
+        return chosen(
+            alloc,
+            schemas,
+            place,
+            variable,
+            operand,
+            first_of(branches),
+            flat[1],
+        );
     }
     let kept = PlanExpr {
         place,
@@ -109,7 +123,14 @@ fn chosen(
         kind: None,
     };
     let parts = two(alloc, Box::into_inner(operand), branch)?;
-    let made = made_as(alloc, schemas, Role::Own, place, Operator::Let(binder), parts)?;
+    let made = made_as(
+        alloc,
+        schemas,
+        Role::Own,
+        place,
+        Operator::Let(binder),
+        parts,
+    )?;
     let is_flat = is_at_most_one(&made.kind.kind) || flat;
     Ok((made, is_flat))
 }

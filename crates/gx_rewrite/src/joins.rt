@@ -167,7 +167,14 @@ fn marked_loop(alloc: Global, schemas: &Schemas, body: PlanExpr) -> Result<PlanE
         Form::For(binder, _, other, test) => {
             let test = marked_test(alloc, schemas, Box::into_inner(test))?;
             let parts = two(alloc, Box::into_inner(other), test)?;
-            made_as(alloc, schemas, Role::InJoin, place, Operator::For(binder, 0), parts)
+            made_as(
+                alloc,
+                schemas,
+                Role::InJoin,
+                place,
+                Operator::For(binder, 0),
+                parts,
+            )
         }
         _ => unreachable!(),
     }
@@ -199,7 +206,14 @@ fn marked_absence(
     ensures { IfOk result (λ e. e ≡ made_as InJoin schemas.now (place_of_operator absent.value) operators.Empty no_parts) }
 {
     let (place, _outer, _carried, _form) = Box::into_inner(absent).into_parts();
-    made_as(alloc, schemas, Role::InJoin, place, Operator::Empty, Vec::new(alloc))
+    made_as(
+        alloc,
+        schemas,
+        Role::InJoin,
+        place,
+        Operator::Empty,
+        Vec::new(alloc),
+    )
 }
 
 // The comparison of the keys of a join, marked.
@@ -215,7 +229,14 @@ fn marked_comparison(
     match form {
         Form::Binary(operator, left_key, right_key) => {
             let parts = two(alloc, Box::into_inner(left_key), Box::into_inner(right_key))?;
-            made_as(alloc, schemas, Role::InJoin, place, Operator::Binary(operator), parts)
+            made_as(
+                alloc,
+                schemas,
+                Role::InJoin,
+                place,
+                Operator::Binary(operator),
+                parts,
+            )
         }
         _ => unreachable!(),
     }

@@ -44,9 +44,18 @@ pub(crate) fn looped(
 {
     if is_single(carried.role, &source) {
         drop(carried);
-        return single(alloc, schemas, place, binder, position, source, body, flat[1]);
+        return single(
+            alloc, schemas, place, binder, position, source, body, flat[1],
+        );
     }
-    if is_join_loop(alloc, schemas, carried.role, binder.variable, position, &body)? {
+    if is_join_loop(
+        alloc,
+        schemas,
+        carried.role,
+        binder.variable,
+        position,
+        &body,
+    )? {
         drop(carried);
         return joined(alloc, schemas, place, binder, source, Box::into_inner(body));
     }
@@ -84,7 +93,14 @@ fn single(
 {
     let (body, flat) = with_position(alloc, schemas, place, position, body, flat)?;
     let parts = two(alloc, Box::into_inner(source), body)?;
-    let made = made_as(alloc, schemas, Role::Own, place, Operator::Let(binder), parts)?;
+    let made = made_as(
+        alloc,
+        schemas,
+        Role::Own,
+        place,
+        Operator::Let(binder),
+        parts,
+    )?;
     let is_flat = is_at_most_one(&made.kind.kind) || flat;
     Ok((made, is_flat))
 }
@@ -112,7 +128,14 @@ fn with_position(
         place,
         kind: None,
     };
-    let made = made_as(alloc, schemas, Role::Own, place, Operator::Let(binder), parts)?;
+    let made = made_as(
+        alloc,
+        schemas,
+        Role::Own,
+        place,
+        Operator::Let(binder),
+        parts,
+    )?;
     let is_flat = is_at_most_one(&made.kind.kind) || flat;
     Ok((made, is_flat))
 }

@@ -15,7 +15,7 @@ use gx_core::expression::Form;
 use gx_core::scope::Scope;
 use gx_plan::operands::form_of;
 use gx_plan::plan::{Carried, Plan, PlanExpr};
-use gx_plan::remake::{remake_query, Frame, Remake};
+use gx_plan::remake::{Frame, Remake, remake_query};
 use gx_rules::flat::is_flat_over;
 use gx_static::item_tests::is_at_most_one;
 use gx_types::schemas::Schemas;
@@ -77,7 +77,13 @@ impl<'a> Remake<Carried, Carried, bool> for Rewriter<'a> {
                     kind: carried,
                     form,
                 };
-                rewritten(alloc, self.schemas, self.variables, expression, facts.as_slice())
+                rewritten(
+                    alloc,
+                    self.schemas,
+                    self.variables,
+                    expression,
+                    facts.as_slice(),
+                )
             }
             Err(error) => {
                 drop(carried);
@@ -107,25 +113,22 @@ fn rewritten(
     let (place, outer, carried, form) = expression.into_parts();
     match form {
         Form::Order(operand) => {
-            ordered(alloc, schemas, variables, place, outer, carried, operand, flat[0])
+            ordered(
+                alloc, schemas, variables, place, outer, carried, operand, flat[0],
+            )
         }
         Form::For(binder, position, source, body) => {
-            looped(alloc, schemas, place, outer, carried, binder, position, source, body, flat)
+            looped(
+                alloc, schemas, place, outer, carried, binder, position, source, body, flat,
+            )
         }
         Form::Switch(operand, cases, default, branches) => switched(
-            alloc,
-            schemas,
-            place,
-            outer,
-            carried,
-            operand,
-            cases,
-            default,
-            branches,
-            flat,
+            alloc, schemas, place, outer, carried, operand, cases, default, branches, flat,
         ),
         Form::Call(function, arguments) => {
-            called(alloc, schemas, place, outer, carried, function, arguments, flat)
+            called(
+                alloc, schemas, place, outer, carried, function, arguments, flat,
+            )
         }
         Form::DataOf(operand) => atomized(alloc, schemas, place, outer, carried, operand, flat[0]),
         _ => unreachable!(),

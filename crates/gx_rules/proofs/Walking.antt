@@ -1,10 +1,10 @@
 -- What holds of an expression that a walk meets, and of what it is still to meet.
 use Rattle.std.proofs.Common.{◌≡◌, ℕ, Bool, true, false, ◌&&◌, ◌||◌, List, [], ◌∷◌, ◌++◌, refl, sym, ◌∙◌, ap}
 use Rattle.gx_types.specs.SchemaSet.{SchemaSet}
-use Rattle.gx_core.specs.Expression.{Expression, At, Parts, no_parts, a_part}
+use Rattle.gx_core.specs.Expression.{At, Parts, no_parts, a_part}
 use Rattle.gx_core.specs.FreeVariables.{names_variable}
 use Rattle.gx_plan.specs.declared.plan.Carried.{Carried}
-use Rattle.gx_plan.specs.Plan.{PlanExpression, kinds_carried}
+use Rattle.gx_plan.specs.Plan.{PlanExpression}
 use Rattle.gx_plan.specs.Walk.{parts_in_order, IsNext}
 use Rattle.gx_rules.specs.Guards.{names_at, is_named_in, is_named_in_parts, is_quiet, are_quiet, is_quiet_at}
 

@@ -1,6 +1,6 @@
 -- What a rule of rewriting may ask of an expression: that it cannot raise an error and makes no node, that it gives nodes in document order,
 -- or that it does not name a variable.
-use Rattle.std.specs.Prelude.{ℕ, zero, suc, nat_eq, Bool, true, false, not, ◌&&◌, ◌||◌, List, [], ◌∷◌}
+use Rattle.std.specs.Prelude.{ℕ, zero, nat_eq, Bool, true, false, ◌&&◌, ◌||◌, List, [], ◌∷◌}
 use Rattle.gx_base.specs.declared.type_name.Builtin.{Builtin}
 use Rattle.gx_base.specs.declared.type_name.Builtin.TheVariants as builtins
 use Rattle.gx_types.specs.SchemaSet.{SchemaSet}
@@ -25,9 +25,8 @@ use Rattle.gx_core.specs.declared.expression.BinaryClass.TheVariants as classes
 use Rattle.gx_core.specs.BinaryOperators.{class_of}
 use Rattle.gx_core.specs.declared.operator.Operator.{Operator}
 use Rattle.gx_core.specs.declared.operator.Operator.TheVariants as operators
-use Rattle.gx_core.specs.Expression.{Expression, At, Parts, no_parts, a_part}
+use Rattle.gx_core.specs.Expression.{At, Parts, no_parts, a_part}
 use Rattle.gx_core.specs.FreeVariables.{names_variable}
-use Rattle.gx_static.specs.declared.comparison.Family.{Family}
 use Rattle.gx_static.specs.declared.comparison.Family.TheVariants as families
 use Rattle.gx_static.specs.Rule.{all_items, is_atomic_in, is_of_family, are_of_family, is_at_most_one}
 use Rattle.gx_plan.specs.declared.plan.Role.{Role}

@@ -1,5 +1,5 @@
 -- The rules of rewriting: what stands in the place of an expression that has the form and meets the guard of a rule.
-use Rattle.std.specs.Prelude.{ℕ, zero, suc, pos, nat_eq, Bool, true, false, not, ◌&&◌, ◌||◌, List, [], ◌∷◌, Option, None, Some, if◌then◌else◌}
+use Rattle.std.specs.Prelude.{ℕ, zero, suc, pos, nat_eq, Bool, false, not, ◌&&◌, List, [], ◌∷◌, Option, None, Some, if◌then◌else◌}
 use Rattle.gx_base.specs.declared.place.Place.{Place}
 use Rattle.gx_base.specs.declared.type_name.Builtin.TheVariants as builtins
 use Rattle.gx_base.specs.declared.type_name.TypeName.TheVariants as names
@@ -7,7 +7,6 @@ use Rattle.gx_types.specs.SchemaSet.{SchemaSet}
 use Rattle.gx_types.specs.declared.item_type.ItemType.TheVariants as items
 use Rattle.gx_types.specs.SequenceType.{SequenceType, item, star}
 use Rattle.gx_types.specs.Occurrence.{occurrence_of}
-use Rattle.gx_types.specs.Occurs.{Occurs}
 use Rattle.gx_types.specs.declared.step.Axis.TheVariants as axes
 use Rattle.gx_types.specs.declared.step.Test.{Test}
 use Rattle.gx_types.specs.declared.step.Test.TheVariants as tests
@@ -17,10 +16,9 @@ use Rattle.gx_funcs.specs.declared.function.Function.TheVariants as functions
 use Rattle.gx_funcs.specs.Function.{integer_atom}
 use Rattle.gx_core.specs.declared.expression.Binder.{Binder}
 use Rattle.gx_core.specs.declared.expression.BinaryOp.TheVariants as binary
-use Rattle.gx_core.specs.declared.cases.TypeCase.{TypeCase}
 use Rattle.gx_core.specs.declared.operator.Operator.{Operator}
 use Rattle.gx_core.specs.declared.operator.Operator.TheVariants as operators
-use Rattle.gx_core.specs.Expression.{Expression, At, Parts, no_parts, a_part, one_part, two_parts, three_parts}
+use Rattle.gx_core.specs.Expression.{At, Parts, no_parts, a_part, one_part, two_parts, three_parts}
 use Rattle.gx_core.specs.Bindings.{Types, look_up}
 use Rattle.gx_static.specs.Rule.{Ruling, has_type, has_none, rule, atomic, is_at_most_one}
 use Rattle.gx_plan.specs.declared.plan.Role.{Role}

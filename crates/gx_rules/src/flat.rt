@@ -73,5 +73,8 @@ fn gives_nodes_in_order(form: &Form<Carried>) -> bool
 fn combines_nodes(operator: BinaryOp) -> bool
     ensures { result ≡ gives_nodes_in_order (operators.Binary operator) }
 {
-    matches!(operator, BinaryOp::Union | BinaryOp::Intersect | BinaryOp::Except)
+    matches!(
+        operator,
+        BinaryOp::Union | BinaryOp::Intersect | BinaryOp::Except
+    )
 }

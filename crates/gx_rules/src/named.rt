@@ -10,11 +10,7 @@ use std::alloc::{AllocError, Global};
 
 /// Whether an expression names a variable. The walk ends long before the loop does.
 #[tactic(auto, using(crate::proofs::Walking::named_next))]
-pub fn is_named_in(
-    alloc: Global,
-    expression: &PlanExpr,
-    variable: u32,
-) -> Result<bool, AllocError>
+pub fn is_named_in(alloc: Global, expression: &PlanExpr, variable: u32) -> Result<bool, AllocError>
     ensures { IfOk result (λ answer. answer ≡ is_named_in expression.now variable) }
 {
     let mut walk = Walk::new(alloc, expression)?;

@@ -14,7 +14,7 @@ use gx_funcs::item_function::ItemFunction;
 use gx_funcs::value_function::ValueFunction;
 use gx_plan::plan::{PlanExpr, Role};
 use gx_plan::walk::Walk;
-use gx_static::comparison::{is_all_of_family, is_of_family, Family};
+use gx_static::comparison::{Family, is_all_of_family, is_of_family};
 use gx_static::item_tests::is_all_in;
 use gx_steptype::data_type::data_type;
 use gx_steptype::error::StepError;
@@ -26,11 +26,7 @@ use std::alloc::{AllocError, Global};
 /// Whether nothing in an expression raises an error or makes a node (XQuery 1.0, section 2.3.4). The walk ends long before the loop
 /// does.
 #[tactic(auto, using(crate::proofs::Walking::quiet_next, crate::proofs::Walking::quiet_goes_on))]
-pub fn is_quiet(
-    alloc: Global,
-    schemas: &Schemas,
-    expression: &PlanExpr,
-) -> Result<bool, AllocError>
+pub fn is_quiet(alloc: Global, schemas: &Schemas, expression: &PlanExpr) -> Result<bool, AllocError>
     ensures { IfOk result (λ answer. answer ≡ is_quiet schemas.now expression.now) }
 {
     let mut walk = Walk::new(alloc, expression)?;
@@ -49,11 +45,7 @@ pub fn is_quiet(
 
 // Whether the operator of an expression raises no error and makes no node.
 #[tactic(auto, using(crate::proofs::Making::kinds_of_all))]
-fn is_quiet_at(
-    alloc: Global,
-    schemas: &Schemas,
-    expression: &PlanExpr,
-) -> Result<bool, AllocError>
+fn is_quiet_at(alloc: Global, schemas: &Schemas, expression: &PlanExpr) -> Result<bool, AllocError>
     ensures { IfOk result (λ answer. answer ≡ is_quiet_at schemas.now expression.now) }
 {
     match &expression.form {
