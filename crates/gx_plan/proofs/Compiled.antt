@@ -1,5 +1,5 @@
 -- What is compiled is remade operator by operator.
-use Rattle.std.proofs.Common.{◌≡◌, List, [], ◌∷◌, map, Option, Some, None, option_map, ◌≢◌, refl, sym, ◌∙◌, ap}
+use Rattle.std.proofs.Common.{◌≡◌, List, [], ◌∷◌, map, Some, None, ◌≢◌, refl, sym, ◌∙◌, ap}
 use Rattle.gx_core.specs.declared.operator.Operator.{Operator}
 use Rattle.gx_core.specs.declared.operator.Operator.TheVariants as operators
 use Rattle.gx_plan.specs.declared.plan.Carried.{Carried}
@@ -8,7 +8,7 @@ use Rattle.gx_base.specs.declared.place.Place.{Place}
 use Rattle.gx_types.specs.SequenceType.{SequenceType}
 use Rattle.gx_core.specs.declared.expression.Declaration.{Declaration}
 use Rattle.gx_core.specs.declared.expression.Declaration.TheVariants.{Global, Function}
-use Rattle.gx_core.specs.Expression.{Expression, At, Parts, no_parts, a_part}
+use Rattle.gx_core.specs.Expression.{At, Parts, no_parts, a_part}
 use Rattle.gx_core.specs.Queries.{TypedCore}
 use Rattle.gx_core.specs.Soundness.{TypedExpression}
 use Rattle.gx_plan.specs.Compiling.{compiled_operator, compiled, compiled_parts, compiled_declaration, compiled_query}

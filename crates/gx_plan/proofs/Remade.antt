@@ -1,5 +1,5 @@
 -- Lists of parts and forms, as a pass over them takes them.
-use Rattle.std.proofs.Common.{◌≡◌, ◌≤◌, ◌+◌, ℕ, suc, List, [], ◌∷◌, ◌++◌, map, length, reverse, refl, sym, ◌∙◌, ap, subst, arith}
+use Rattle.std.proofs.Common.{◌≡◌, ◌+◌, ℕ, suc, List, [], ◌∷◌, ◌++◌, map, length, reverse, refl, sym, ◌∙◌, ap, subst, arith}
 use Rattle.std.proofs.lemmas.List.{reverse-reverse, reverse-append, append-nil, length-reverse}
 use Rattle.gx_base.specs.declared.place.Place.{Place}
 use Rattle.gx_core.specs.declared.operator.Operator.{Operator}
@@ -9,8 +9,8 @@ use Rattle.gx_core.specs.declared.expression.Form.{Form}
 use Rattle.gx_core.specs.declared.expression.Form.TheVariants.{Lit, Var, Empty, Seq, For, Let, If, Cast, Castable, Treat}
 use Rattle.gx_core.specs.declared.expression.Form.TheVariants.{Step, Nodes, Order, SomeIn, EveryIn, Switch, Nth}
 use Rattle.gx_core.specs.declared.expression.Form.TheVariants.{Final, DataOf, NoContext, Call, Neg, Binary, Block, Construct, User}
-use Rattle.gx_core.specs.Expression.{Expression, At, Parts, no_parts, a_part, all_parts}
-use Rattle.gx_core.specs.ExpressionView.{kind_of_clause, order_of_key, part_of_clause, part_of_key, operator_of, parts_of, parts_of_block}
+use Rattle.gx_core.specs.Expression.{Expression, At, a_part, all_parts}
+use Rattle.gx_core.specs.ExpressionView.{kind_of_clause, order_of_key, part_of_key, operator_of, parts_of, parts_of_block}
 use Rattle.gx_core.specs.Invariant.{number_of_parts}
 use Rattle.gx_plan.specs.Operands.{HasPlaceFor}
 use Rattle.gx_plan.specs.Remaking.{Remaker, remade, parts_remade}

@@ -1,6 +1,5 @@
 -- The variables that declarations, operators and clauses bind, one after the other.
-use Rattle.std.proofs.Common.{◌≡◌, List, [], ◌∷◌, ◌++◌, map, Option, Some, None, refl, sym, ◌∙◌, ap}
-use Rattle.gx_types.specs.SequenceType.{SequenceType}
+use Rattle.std.proofs.Common.{◌≡◌, List, [], ◌∷◌, ◌++◌, map, Some, None, refl, sym, ◌∙◌, ap}
 use Rattle.gx_core.specs.declared.expression.Clause.{Clause}
 use Rattle.gx_core.specs.declared.expression.SortKey.{SortKey}
 use Rattle.gx_core.specs.declared.expression.Declaration.{Declaration}
@@ -10,11 +9,11 @@ use Rattle.gx_core.specs.declared.expression.Binder.{Binder}
 use Rattle.gx_core.specs.CalledFunctions.{type_of_parameter}
 use Rattle.gx_core.specs.QueryMeaning.{parameter_types}
 use Rattle.gx_core.specs.Bindings.{Types, position_bound, block_types_bound}
-use Rattle.gx_core.specs.Expression.{Expression, At, Parts, no_parts, a_part, all_parts}
+use Rattle.gx_core.specs.Expression.{At, Parts, no_parts, a_part, all_parts}
 use Rattle.gx_core.specs.ExpressionView.{kind_of_clause, part_of_clause, part_of_key, parts_of_block}
 use Rattle.gx_plan.specs.declared.plan.Carried.{Carried}
 use Rattle.gx_plan.specs.Plan.{PlanExpression, kinds_carried}
-use Rattle.gx_plan.specs.Walk.{parts_in_order, parts_of_expression, IsNext}
+use Rattle.gx_plan.specs.Walk.{parts_in_order, IsNext}
 use Rattle.gx_plan.specs.Variables.{case_variables, with_variables_at, with_variables_in, with_variables_in_parts, with_variables_in_all, with_variables_of_clauses, with_variables_declared}
 
 pub one_by_one : (declaration : Declaration Carried) (others : List (Declaration Carried)) (before : Types)

@@ -1,5 +1,5 @@
 -- What typed Core is compiled to: the operators that typing alone needs go, and each operator that stays is one of its own.
-use Rattle.std.specs.Prelude.{◌≡◌, ℕ, List, [], ◌∷◌, map, Option, Some, None, option_map}
+use Rattle.std.specs.Prelude.{◌≡◌, ℕ, List, map, option_map}
 use Rattle.gx_base.specs.declared.place.Place.{Place}
 use Rattle.gx_types.specs.SchemaSet.{SchemaSet}
 use Rattle.gx_types.specs.SequenceType.{SequenceType}
@@ -9,7 +9,7 @@ use Rattle.gx_core.specs.declared.expression.Declaration.{Declaration}
 use Rattle.gx_core.specs.declared.expression.Declaration.TheVariants.{Global, Function}
 use Rattle.gx_core.specs.declared.operator.Operator.{Operator}
 use Rattle.gx_core.specs.declared.operator.Operator.TheVariants as operators
-use Rattle.gx_core.specs.Expression.{Expression, At, Parts, no_parts, a_part}
+use Rattle.gx_core.specs.Expression.{At, Parts, no_parts, a_part}
 use Rattle.gx_core.specs.Queries.{TypedCore}
 use Rattle.gx_core.specs.Soundness.{TypedExpression}
 use Rattle.gx_core.specs.QueryMeaning.{plain_query, outcome_within, IsSoundQuery, DocumentsFit}

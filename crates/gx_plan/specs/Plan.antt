@@ -1,15 +1,13 @@
 -- Plans: typed Core in which some loops are marked as joins. A mark changes no meaning: a join means its two loops and their test.
-use Rattle.std.specs.Prelude.{ℕ, List, [], ◌∷◌, ◌++◌, map, Option, Some, None, option_map, get_or}
+use Rattle.std.specs.Prelude.{List, [], ◌∷◌, map, option_map}
 use Rattle.gx_types.specs.SequenceType.{SequenceType}
 use Rattle.gx_core.specs.declared.expression.Query.{Query}
 use Rattle.gx_core.specs.declared.expression.Declaration.{Declaration}
 use Rattle.gx_core.specs.declared.expression.Declaration.TheVariants.{Global, Function}
-use Rattle.gx_core.specs.declared.expression.DeclaredFunction.{DeclaredFunction}
 use Rattle.gx_core.specs.Expression.{Expression, At, Parts, no_parts, a_part, annotation_of}
 use Rattle.gx_core.specs.Queries.{TypedCore}
 use Rattle.gx_core.specs.Soundness.{TypedExpression}
-use Rattle.gx_plan.specs.declared.plan.Role.{Role}
-use Rattle.gx_plan.specs.declared.plan.Role.TheVariants.{Own, Join, InJoin}
+use Rattle.gx_plan.specs.declared.plan.Role.TheVariants.{Own}
 use Rattle.gx_plan.specs.declared.plan.Carried.{Carried}
 
 abbrev pub PlanExpression : Type 0

@@ -3,7 +3,6 @@ use Rattle.std.specs.Prelude.{◌≡◌, ℕ, suc, ◌+◌, List, [], ◌∷◌,
 use Rattle.gx_core.specs.declared.expression.Query.{Query}
 use Rattle.gx_core.specs.declared.expression.Declaration.{Declaration}
 use Rattle.gx_core.specs.declared.expression.Declaration.TheVariants.{Global, Function}
-use Rattle.gx_core.specs.declared.expression.DeclaredFunction.{DeclaredFunction}
 use Rattle.gx_base.specs.declared.place.Place.{Place}
 use Rattle.gx_core.specs.declared.operator.Operator.{Operator}
 use Rattle.gx_core.specs.Expression.{Expression, At, Parts, no_parts, a_part, all_parts}

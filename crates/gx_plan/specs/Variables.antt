@@ -1,9 +1,7 @@
 -- The types that the variables of a plan carry: those that their binders give.
-use Rattle.std.specs.Prelude.{ℕ, List, [], ◌∷◌, ◌++◌, Option, None, Some}
+use Rattle.std.specs.Prelude.{List, [], ◌∷◌, ◌++◌, None, Some}
 use Rattle.gx_types.specs.SequenceType.{SequenceType}
-use Rattle.gx_types.specs.Prime.{prime_of}
 use Rattle.gx_core.specs.declared.cases.TypeCase.{TypeCase}
-use Rattle.gx_core.specs.declared.expression.Binder.{Binder}
 use Rattle.gx_core.specs.declared.expression.Declaration.{Declaration}
 use Rattle.gx_core.specs.declared.expression.Declaration.TheVariants.{Global, Function}
 use Rattle.gx_core.specs.declared.operator.Operator.{Operator}
@@ -11,7 +9,7 @@ use Rattle.gx_core.specs.declared.operator.Operator.TheVariants as operators
 use Rattle.gx_core.specs.declared.expression.Clause.{Clause}
 use Rattle.gx_core.specs.Bindings.{Types, position_bound, types_bound, clause_types_bound, block_types_bound}
 use Rattle.gx_core.specs.ExpressionView.{kind_of_clause, part_of_clause}
-use Rattle.gx_core.specs.Expression.{Expression, At, Parts, no_parts, a_part}
+use Rattle.gx_core.specs.Expression.{At, Parts, no_parts, a_part}
 use Rattle.gx_core.specs.QueryMeaning.{external_types, parameter_types}
 use Rattle.gx_plan.specs.declared.plan.Carried.{Carried}
 use Rattle.gx_plan.specs.Plan.{PlanExpression, PlanQuery, kind_carried, kinds_carried}

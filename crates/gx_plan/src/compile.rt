@@ -7,7 +7,7 @@ ghost use Rattle.gx_plan.specs.Variables.{variables_of_query};
 
 use crate::operands::form_of;
 use crate::plan::{Carried, Plan, PlanExpr, Role};
-use crate::remake::{remake_query, Frame, Remake};
+use crate::remake::{Frame, Remake, remake_query};
 use crate::variables::variables_of;
 use gx_core::dismantle::dismantle_query;
 use gx_core::expression::TypedCore;

@@ -2,8 +2,8 @@
 #![tactic(auto)]
 
 pub mod compile;
-pub mod operands;
 pub mod laws;
+pub mod operands;
 pub mod plan;
 pub mod remake;
 pub mod variables;

@@ -223,15 +223,13 @@ fn remake_function<K: Drop, L: Drop, F: Drop, R: Remake<K, L, F>>(
         body,
     } = function;
     match remake_all(alloc, remaker, body) {
-        Ok((body, _fact)) => Ok(
-            Declaration::Function(DeclaredFunction {
-                place,
-                name,
-                parameters,
-                result,
-                body,
-            }),
-        ),
+        Ok((body, _fact)) => Ok(Declaration::Function(DeclaredFunction {
+            place,
+            name,
+            parameters,
+            result,
+            body,
+        })),
         Err(error) => {
             drop(name);
             drop(parameters);

@@ -149,11 +149,7 @@ fn bind_item(
 }
 
 // Binds the variable of a position, where there is one.
-fn bind_position(
-    alloc: Global,
-    position: u32,
-    variables: &mut Scope<Ty>,
-) -> Result<(), AllocError>
+fn bind_position(alloc: Global, position: u32, variables: &mut Scope<Ty>) -> Result<(), AllocError>
     ensures { OnOk result (variables.new ≡ position_bound position (item (Atom (BuiltinType Integer))) ++ variables.old) }
 {
     if position != 0 {

@@ -44,17 +44,25 @@ use Rattle.gx_processor.specs.RuleCode.{rule_code}
 use Rattle.gx_processor.specs.declared.status.Status.{Status}
 use Rattle.gx_processor.specs.declared.status.Status.TheVariants as status
 use Rattle.gx_processor.specs.NamedQuery.{NamedQuery, named_query, unknown_name, query_named}
-use Rattle.gx_processor.specs.Command.{Command, run_file, check_file, query_file, command_of, texts_to_compare, workload_asked}
+use Rattle.gx_processor.specs.Command.{Command, run_file, check_file, plan_file, query_file, AskForPlan, command_of, texts_to_compare, workload_asked}
 use Rattle.gx_demo.specs.Workload.{workload_files}
 use Rattle.gx_processor.specs.FaultLines.{line, usage_line, left_type_line, right_type_line, read_fault_line, code_line, placed_line, binding_line, long_document_line, document_line, invalid_line, import_line, shown_with}
 use Rattle.gx_processor.specs.Serialisation.{serialised}
+use Rattle.gx_plan.specs.declared.plan.Plan.{Plan}
+use Rattle.gx_rewrite.specs.Rewriting.{setting_of, PlansCanBeRewritten}
 use Rattle.gx_processor.specs.TypeBytes.{type_bytes}
+use Rattle.gx_processor.specs.PlanBytes.{plan_bytes, compiled_plan}
 use Rattle.gx_processor.specs.Answer.{Answer, writes, refuses, can_be_written, AnswersTexts, AnswersOutcome, AnswersEvaluated, AnswersRead, AnswersKept, AnswersLoaded, AnswersFiles, AnswersBound, AnswersTyped, AnswersJudged, AnswersNamed, AnswersImported, AnswersSources, AnswersSchemas, AnswersParsed, AnswersBytes, AnswersFile, AnswersCommand, AnswersWords, AnAnswerExists, with_line_feed, workload_command, AnswersWorkload}
 
 outcome_answers : (schemas : SchemaSet) (t : SequenceType) (before : Forest) (o : Outcome Items) → Keeps (typed_setting schemas) before t o → (a : Answer) × AnswersOutcome o a
 outcome_answers schemas t before (gives items forest) h = (writes (serialised forest items), refl)
 outcome_answers schemas t before (raises code) h = (refuses status.Dynamic (code_line code), refl)
 outcome_answers schemas t before wrong h = absurd h
+
+-- what a command asks of plans
+abbrev CanBeRewritten : Option Command → Type 0
+CanBeRewritten (Some (plan_file name)) = PlansCanBeRewritten
+CanBeRewritten _ = Unit {0}
 
 -- the outcome of a query that has a type is no type error, whatever its documents are
 evaluated_answers : (schemas : SchemaSet) (core : Core) (t : TypedCore) (documents : Forest) → IsSchemaSet schemas → AreDocumentsOf schemas core.declarations documents → IsNamedCore schemas core
@@ -115,52 +123,56 @@ module _ (files : Files) (schemas : SchemaSet) (invariant : IsSchemaSet schemas)
   writable_answers core t bindings true externals e = bound_answers core t bindings (misbound (external_words core.declarations) bindings) externals e
   writable_answers core t bindings false externals e = (refuses status.Query (placed_line SENR0001 (outer_of core.body)), refl)
 
-  typed_answers : (command : Command) (core : Core) (t : TypedCore) → IsNamedCore schemas core → query_judged schemas core ≡ query_typed t → (a : Answer) × AnswersTyped files command schemas core t a
-  typed_answers (run_file name bindings) core t externals e = writable_answers core t bindings (can_be_written schemas t) externals e
-  typed_answers (check_file name) core t externals e = (writes (type_bytes (query_type t)), refl)
+  typed_answers : (command : Command) (core : Core) (t : TypedCore) → CanBeRewritten (Some command) → IsNamedCore schemas core → query_judged schemas core ≡ query_typed t → (a : Answer) × AnswersTyped files command schemas core t a
+  typed_answers (run_file name bindings) core t plans externals e = writable_answers core t bindings (can_be_written schemas t) externals e
+  typed_answers (check_file name) core t plans externals e = (writes (type_bytes (query_type t)), refl)
+  typed_answers (plan_file name) core t plans externals e =
+      let rewritten = plans (setting_of schemas (compiled_plan t)) (compiled_plan t).query in
+      let plan : Plan = record { query = rewritten.0; variables = (compiled_plan t).variables } in
+      (writes (plan_bytes plan), (plan_bytes plan, (plan, record { rewritten = rewritten.1; variables = refl }, refl), refl))
 
-  judged_answers : (command : Command) (core : Core) (j : QueryJudgement) → IsNamedCore schemas core → query_judged schemas core ≡ j → (a : Answer) × AnswersJudged files command schemas core j a
-  judged_answers command core (query_typed t) externals e = typed_answers command core t externals e
-  judged_answers command core (query_rejected place code) externals e = (refuses status.Query (placed_line code place), refl)
+  judged_answers : (command : Command) (core : Core) (j : QueryJudgement) → CanBeRewritten (Some command) → IsNamedCore schemas core → query_judged schemas core ≡ j → (a : Answer) × AnswersJudged files command schemas core j a
+  judged_answers command core (query_typed t) plans externals e = typed_answers command core t plans externals e
+  judged_answers command core (query_rejected place code) plans externals e = (refuses status.Query (placed_line code place), refl)
 
-  named_answers : (command : Command) (n : NamedQuery) → ((core : Core) → n ≡ named_query core → IsNamedCore schemas core) → (a : Answer) × AnswersNamed files command schemas n a
-  named_answers command (named_query core) externals = judged_answers command core (query_judged schemas core) (externals core refl) refl
-  named_answers command (unknown_name place code) externals = (refuses status.Query (placed_line code place), refl)
+  named_answers : (command : Command) (n : NamedQuery) → CanBeRewritten (Some command) → ((core : Core) → n ≡ named_query core → IsNamedCore schemas core) → (a : Answer) × AnswersNamed files command schemas n a
+  named_answers command (named_query core) plans externals = judged_answers command core (query_judged schemas core) plans (externals core refl) refl
+  named_answers command (unknown_name place code) plans externals = (refuses status.Query (placed_line code place), refl)
 
-imported_answers : ImportsAreSchemaSets → (files : Files) (command : Command) (tree : SyntaxQuery) (sources : List Source) (told : Imported) → IsImported sources told → (a : Answer) × AnswersImported files command tree (schema_files tree) told a
-imported_answers imports files command tree sources (declares schemas) e =
-    named_answers files schemas (imports sources schemas e) command (query_named schemas tree) (λ core named. named_core named_queries_have_documents schemas tree core named)
-imported_answers imports files command tree sources (breaks rule file name list) e =
+imported_answers : ImportsAreSchemaSets → (files : Files) (command : Command) → CanBeRewritten (Some command) → (tree : SyntaxQuery) (sources : List Source) (told : Imported) → IsImported sources told → (a : Answer) × AnswersImported files command tree (schema_files tree) told a
+imported_answers imports files command plans tree sources (declares schemas) e =
+    named_answers files schemas (imports sources schemas e) command (query_named schemas tree) plans (λ core named. named_core named_queries_have_documents schemas tree core named)
+imported_answers imports files command plans tree sources (breaks rule file name list) e =
     (refuses status.Schema (import_line rule (file_name_at (schema_files tree) file) (shown_with rule name list)), refl)
 
-sources_answers : AnImportExists → ImportsAreSchemaSets → (files : Files) (command : Command) (tree : SyntaxQuery) (sources : List Source) → (a : Answer) × AnswersSources files command tree sources a
-sources_answers exists imports files command tree sources =
+sources_answers : AnImportExists → ImportsAreSchemaSets → (files : Files) (command : Command) → CanBeRewritten (Some command) → (tree : SyntaxQuery) (sources : List Source) → (a : Answer) × AnswersSources files command tree sources a
+sources_answers exists imports files command plans tree sources =
     let told = exists sources in
-    let answer = imported_answers imports files command tree sources told.0 told.1 in
+    let answer = imported_answers imports files command plans tree sources told.0 told.1 in
     (answer.0, (told.0, told.1, answer.1))
 
-schemas_answers : AnImportExists → ImportsAreSchemaSets → (files : Files) (command : Command) (tree : SyntaxQuery) → (a : Answer) × AnswersSchemas files command tree a
-schemas_answers exists imports files command tree =
-    files_answers status.Schema files (schema_requests tree) [] (AnswersSources files command tree) (λ sources kept. sources_answers exists imports files command tree sources)
+schemas_answers : AnImportExists → ImportsAreSchemaSets → (files : Files) (command : Command) → CanBeRewritten (Some command) → (tree : SyntaxQuery) → (a : Answer) × AnswersSchemas files command tree a
+schemas_answers exists imports files command plans tree =
+    files_answers status.Schema files (schema_requests tree) [] (AnswersSources files command tree) (λ sources kept. sources_answers exists imports files command plans tree sources)
 
-parsed_answers : AnImportExists → ImportsAreSchemaSets → (files : Files) (command : Command) (p : Parsing) → (a : Answer) × AnswersParsed files command p a
-parsed_answers exists imports files command (parsed tree) = schemas_answers exists imports files command tree
-parsed_answers exists imports files command (refused rule place) = (refuses status.Query (placed_line (rule_code rule) place), refl)
+parsed_answers : AnImportExists → ImportsAreSchemaSets → (files : Files) (command : Command) → CanBeRewritten (Some command) → (p : Parsing) → (a : Answer) × AnswersParsed files command p a
+parsed_answers exists imports files command plans (parsed tree) = schemas_answers exists imports files command plans tree
+parsed_answers exists imports files command plans (refused rule place) = (refuses status.Query (placed_line (rule_code rule) place), refl)
 
-file_answers : AnImportExists → ImportsAreSchemaSets → (files : Files) (command : Command) (bytes : List ℕ) (short : Bool) → (a : Answer) × MatchBool short (AnswersBytes files command bytes a) (a ≡ refuses status.Query (code_line GLXS0001))
-file_answers exists imports files command bytes false = (refuses status.Query (code_line GLXS0001), refl)
-file_answers exists imports files command bytes true =
+file_answers : AnImportExists → ImportsAreSchemaSets → (files : Files) (command : Command) → CanBeRewritten (Some command) → (bytes : List ℕ) (short : Bool) → (a : Answer) × MatchBool short (AnswersBytes files command bytes a) (a ≡ refuses status.Query (code_line GLXS0001))
+file_answers exists imports files command plans bytes false = (refuses status.Query (code_line GLXS0001), refl)
+file_answers exists imports files command plans bytes true =
     let parsing = a_parsing_exists bytes in
-    let answer = parsed_answers exists imports files command parsing.0 in
+    let answer = parsed_answers exists imports files command plans parsing.0 in
     (answer.0, (parsing.0, parsing.1, answer.1))
 
-loaded_answers : AnImportExists → ImportsAreSchemaSets → (files : Files) (command : Command) (file : Option (List ℕ)) → (a : Answer) × AnswersFile files command file a
-loaded_answers exists imports files command None = (refuses status.ReadFault (read_fault_line (query_file command)), refl)
-loaded_answers exists imports files command (Some bytes) = file_answers exists imports files command bytes (nat_le (length bytes) FILE_BYTES)
+loaded_answers : AnImportExists → ImportsAreSchemaSets → (files : Files) (command : Command) → CanBeRewritten (Some command) → (file : Option (List ℕ)) → (a : Answer) × AnswersFile files command file a
+loaded_answers exists imports files command plans None = (refuses status.ReadFault (read_fault_line (query_file command)), refl)
+loaded_answers exists imports files command plans (Some bytes) = file_answers exists imports files command plans bytes (nat_le (length bytes) FILE_BYTES)
 
-command_answers : AnImportExists → ImportsAreSchemaSets → (files : Files) (command : Option Command) → (a : Answer) × AnswersCommand files command a
-command_answers exists imports files None = (refuses status.Usage usage_line, refl)
-command_answers exists imports files (Some command) = loaded_answers exists imports files command (file_of files (query_file command))
+command_answers : AnImportExists → ImportsAreSchemaSets → (files : Files) (command : Option Command) → CanBeRewritten command → (a : Answer) × AnswersCommand files command a
+command_answers exists imports files None plans = (refuses status.Usage usage_line, refl)
+command_answers exists imports files (Some command) plans = loaded_answers exists imports files command plans (file_of files (query_file command))
 
 -- two texts that are compared
 texts_answer : (left right : List ℕ) → (a : Answer) × AnswersTexts left right a
@@ -173,14 +185,22 @@ texts_answer left right =
 
 workload_answers : AnImportExists → ImportsAreSchemaSets → (items : ℕ) → (a : Answer) × AnswersWorkload items a
 workload_answers exists imports items =
-    let run = command_answers exists imports (workload_files items) (Some workload_command) in
+    let run = command_answers exists imports (workload_files items) (Some workload_command) tt in
     (with_line_feed run.0, (run.0, run.1, refl))
 
-words_answer : AnImportExists → ImportsAreSchemaSets → (files : Files) (texts : Option (List ℕ × List ℕ)) (workload : Option ℕ) (asked : Option Command)
-    → (a : Answer) × AnswersWords files texts workload asked a
-words_answer exists imports files (Some texts) workload asked = texts_answer (chars texts.0) (chars texts.1)
-words_answer exists imports files None (Some items) asked = workload_answers exists imports items
-words_answer exists imports files None None asked = command_answers exists imports files asked
+-- what a command asks of plans
+asked_plans : (asked : Option Command) → PlansCanBeRewritten → CanBeRewritten asked
+asked_plans None plans = tt
+asked_plans (Some (run_file name bindings)) plans = tt
+asked_plans (Some (check_file name)) plans = tt
+asked_plans (Some (plan_file name)) plans = plans
 
-pub an_answer_exists : AnImportExists → ImportsAreSchemaSets → AnAnswerExists
-an_answer_exists exists imports words files = words_answer exists imports files (texts_to_compare words) (workload_asked words) (command_of words)
+words_answer : AnImportExists → ImportsAreSchemaSets → (files : Files) (texts : Option (List ℕ × List ℕ)) (workload : Option ℕ) (asked : Option Command)
+    → CanBeRewritten asked → (a : Answer) × AnswersWords files texts workload asked a
+words_answer exists imports files (Some texts) workload asked plans = texts_answer (chars texts.0) (chars texts.1)
+words_answer exists imports files None (Some items) asked plans = workload_answers exists imports items
+words_answer exists imports files None None asked plans = command_answers exists imports files asked plans
+
+pub an_answer_exists : AnImportExists → ImportsAreSchemaSets → PlansCanBeRewritten → AnAnswerExists
+an_answer_exists exists imports plans words files =
+    words_answer exists imports files (texts_to_compare words) (workload_asked words) (command_of words) (asked_plans (command_of words) plans)

@@ -24,7 +24,7 @@ use Rattle.gx_processor.specs.declared.status.Status.{Status}
 use Rattle.gx_processor.specs.declared.refusal.Refusal.{Refusal}
 use Rattle.gx_processor.specs.declared.refusal.Refusal.TheVariants as refusal
 use Rattle.gx_processor.specs.Answer.{writes, refuses, AnswersFile}
-use Rattle.gx_processor.specs.Command.{Command, run_file, check_file, query_file, IsRunCommand}
+use Rattle.gx_processor.specs.Command.{Command, run_file, check_file, plan_file, query_file, IsRunCommand}
 use Rattle.gx_processor.specs.FaultLines.{read_fault_line}
 use Rattle.gx_processor.specs.Loading.{RunLoads, QueryLoads, HoldsTypedQuery, BehindQuery, CommandLoads, AreFirstOf, loads_behind, MayLoad}
 use Rattle.gx_processor.specs.NamedQuery.{NamedQuery, named_query, unknown_name, query_named}
@@ -34,7 +34,7 @@ use Rattle.gx_processor.specs.SchemaFiles.{schema_requests}
 use Rattle.gx_processor.specs.Replies.{RefusesSo, IsOfQuery, HasCause, AreFirst, RefusalLoads, LoadFailed, NamesOneOf, OutcomeLoads, OutcomeFailed, OutputLoads}
 use Rattle.gx_processor.specs.RunReplies.{IsOfRun, FailsAtDocument, IsWrittenOrStarved, RunsSo}
 use Rattle.gx_processor.specs.TypeBytes.{type_bytes}
-use Rattle.gx_processor.proofs.AnswerLemmas.{command_unique}
+use Rattle.gx_processor.proofs.AnswerLemmas.{command_alike}
 use Rattle.gx_processor.proofs.LoadLemmas.{one_load, whole_is_front}
 use Rattle.gx_processor.proofs.QueryLemmas.{query_answers, same_tree}
 use Rattle.gx_processor.proofs.Told.{told_so}
@@ -116,6 +116,7 @@ query_begins files name loads (inr h) = ([], h.1)
 -- the loads of a command begin with those of its query
 begins : (files : Files) (command : Command) (front : List (List ℕ)) → AreFirst (QueryLoads files (query_file command)) front → AreFirst (CommandLoads files command) front
 begins files (check_file name) front h whole k = h whole k
+begins files (plan_file name) front h whole k = h whole k
 begins files (run_file name bindings) front h whole k = subst (λ (ns : List (List ℕ)). AreFirstOf front ns) (sym k.4) (first_of_more front k.0 k.1 (h k.0 k.2))
 
 -- ---- a query that is refused
@@ -127,12 +128,13 @@ RefusedAlways files name e = (command : Command) → RefusesSo e (AnswersFile fi
 -- has no type
 refused_has_none : ImportsAreOne → (files : Files) (name : List ℕ) (status : Status) (line : List ℕ) → AnswersFile files (check_file name) (file_of files name) (refuses status line) → HoldsTypedQuery files name → ⊥
 refused_has_none single files name status line h q =
-    let same = command_unique single files (Some (check_file name)) (refuses status line) (writes (type_bytes (query_type q.typing))) h
+    let same = command_alike single files (Some (check_file name)) (refuses status line) (writes (type_bytes (query_type q.typing))) h
     (query_answers files (check_file name) q.schemas q.core q.typing (writes (type_bytes (query_type q.typing))) q.query q.judgement refl) in
     cc
 
 query_alone : (files : Files) (command : Command) (loads : List (List ℕ)) → (HoldsTypedQuery files (query_file command) → ⊥) → QueryLoads files (query_file command) loads → CommandLoads files command loads
 query_alone files (check_file name) loads none h = h
+query_alone files (plan_file name) loads none h = h
 query_alone files (run_file name bindings) loads none h = (loads, [], h, inr (none, refl), sym (append-nil loads))
 
 query_loads : ImportsAreOne → (files : Files) (command : Command) (loads : List (List ℕ)) (e : Refusal) → IsOfQuery e → RefusedAlways files (query_file command) e → RefusalLoads (QueryLoads files (query_file command)) loads e → RefusalLoads (CommandLoads files command) loads e
@@ -151,6 +153,7 @@ query_loads single files command loads (refusal.Dynamic code) own h l = absurd o
 
 may_load_query : (command : Command) (loads schemas : List (List ℕ)) → loads ≡ query_file command ∷ schemas → MayLoad (Some command) loads
 may_load_query (check_file name) loads schemas h = (schemas, h)
+may_load_query (plan_file name) loads schemas h = (schemas, h)
 may_load_query (run_file name bindings) loads schemas h = (schemas, [], h ∙ ap (λ (ns : List (List ℕ)). name ∷ ns) (sym (append-nil schemas)), tt)
 
 refused_loads : ImportsAreOne → (V : Type 0) (told : Option Files) (command : Command) (loads : List (List ℕ)) (e : Refusal) → IsOfQuery e → IfSome told (λ files. RefusedAlways files (query_file command) e)
@@ -200,6 +203,10 @@ check_loads library name loads schemas (Err (refusal.Schema rule file construct)
 check_loads library name loads schemas (Err (refusal.Binding fault)) only first told own = absurd own
 check_loads library name loads schemas (Err (refusal.Document file fault)) only first told own = absurd own
 check_loads library name loads schemas (Err (refusal.Dynamic code)) only first told own = absurd own
+
+-- a plan loads what a check loads
+pub plan_loads : {V : Type 0} (library : LibraryUse) (name : List ℕ) (result : Result V Refusal) → OutputLoads library (check_file name) result → OutputLoads library (plan_file name) result
+plan_loads library name result l = record { names = l.names; loaded = l.loaded; may = l.may; told = l.told; failed = l.failed; of_loads = l.of_loads }
 
 -- ---- a run
 

@@ -37,7 +37,7 @@ use Rattle.gx_processor.specs.declared.status.Status.TheVariants.{Query, Schema,
 use Rattle.gx_ast.specs.declared.query.Query.{Query as SyntaxQuery}
 use Rattle.gx_parse_grammar.specs.Query.{Parsing, parsed, refused, Parses}
 use Rattle.gx_parse_grammar.proofs.OneParsing.{one_parsing}
-use Rattle.gx_processor.specs.Command.{Command, run_file, check_file, query_file, command_of}
+use Rattle.gx_processor.specs.Command.{Command, run_file, check_file, plan_file, query_file, command_of}
 use Rattle.gx_processor.specs.Query.{HoldsSyntax, ImportsSchemas, HoldsQuery}
 use Rattle.gx_processor.specs.SchemaFiles.{schema_files, schema_requests}
 use Rattle.gx_processor.specs.NamedQuery.{NamedQuery, named_query, unknown_name, query_named}
@@ -47,6 +47,7 @@ use Rattle.gx_processor.specs.Answer.{Answer, writes, refuses, status_of, output
 use Rattle.gx_processor.specs.Run.{Run}
 use Rattle.gx_processor.specs.Promises.{LeavesAnswer}
 use Rattle.gx_processor.specs.Headline.{RunEnds, RunsTyped, ChecksTyped, HoldsTyped, RunsAsChecked, RejectsUntyped}
+use Rattle.gx_processor.specs.PlannedQueries.{PlansTyped}
 use Rattle.gx_processor.proofs.AnswerLemmas.{answer_at, answer_asked}
 use Rattle.gx_processor.proofs.LoadLemmas.{OfDocument}
 use Rattle.gx_processor.proofs.PromiseLemmas.{AnsweredOrStarved}
@@ -172,6 +173,13 @@ typed_check single run files (inl answered) name schemas core t e q j =
     let is = typed_answer single run.words files (check_file name) schemas core t answered.answer e q j answered.answers in
     let sinks = subst (λ (b : Answer). LeavesAnswer b run) is answered.sinks in
     inl (record { status = answered.status ∙ ap status_of is; output = sinks.0; line = sinks.1 })
+
+pub typed_plan : ImportsAreOne → (run : Run) (files : Files) → AnsweredOrStarved run files → PlansTyped run files
+typed_plan single run files (inr m) name schemas core t e q j = inr m
+typed_plan single run files (inl answered) name schemas core t e q j =
+    let of_plan = typed_answer single run.words files (plan_file name) schemas core t answered.answer e q j answered.answers in
+    let sinks = subst (λ (b : Answer). LeavesAnswer b run) of_plan.2 answered.sinks in
+    inl (record { bytes = of_plan.0; plan = of_plan.1; status = answered.status ∙ ap status_of of_plan.2; output = sinks.0; line = sinks.1 })
 
 -- a check that prints a type
 judged_printed : (files : Files) (name : List ℕ) (schemas : SchemaSet) (core : Core) (j : QueryJudgement) (printed : List ℕ) → AnswersJudged files (check_file name) schemas core j (writes printed) → (t : TypedCore) × (j ≡ query_typed t) × (type_bytes (query_type t) ≡ printed)

@@ -23,7 +23,7 @@ use Rattle.gx_documents.specs.Documents.{Files, Request, HoldKept, DocumentsLoad
 use Rattle.gx_processor.specs.declared.status.Status.{Status}
 use Rattle.gx_processor.specs.declared.status.Status.TheVariants as status
 use Rattle.gx_processor.specs.Answer.{Answer, refuses, can_be_written, AnswersEvaluated, AnswersRead, AnswersKept, AnswersLoaded, AnswersFiles, AnswersBound, AnswersRun, AnswersTyped, AnswersJudged, AnswersNamed, AnswersImported, AnswersSources, AnswersSchemas, AnswersParsed, AnswersBytes, AnswersFile, AnswersCommand, AnswersWords}
-use Rattle.gx_processor.specs.Command.{Command, run_file, check_file, query_file, command_of, texts_to_compare, workload_asked}
+use Rattle.gx_processor.specs.Command.{Command, run_file, check_file, plan_file, query_file, command_of, texts_to_compare, workload_asked}
 use Rattle.gx_processor.specs.Externals.{external_words, documents_bound}
 use Rattle.gx_processor.specs.FaultLines.{code_line, placed_line, long_document_line}
 use Rattle.gx_processor.specs.Loading.{BoundLoads, RunLoads, QueryLoads, BehindQuery, CommandLoads, LoadsAsked, AgreeOn, AnswersLookAtTheirLoads}
@@ -187,6 +187,8 @@ module _ (single : ImportsAreOne) (files others : Files) where
   command_moves : (command : Command) (loads : List (List ℕ)) (a : Answer) → CommandLoads files command loads → AgreeOn loads files others → AnswersCommand files (Some command) a → AnswersCommand others (Some command) a
   command_moves (check_file name) loads a l agree h =
       query_file_moves (check_file name) a (first_same name loads l agree) (trees_loaded name loads l agree) (λ schemas core q t j k. k) h
+  command_moves (plan_file name) loads a l agree h =
+      query_file_moves (plan_file name) a (first_same name loads l agree) (trees_loaded name loads l agree) (λ schemas core q t j k. k) h
   command_moves (run_file name bindings) loads a l agree h =
       let all = subst (λ (ns : List (List ℕ)). AgreeOn ns files others) l.4 agree in
       let front = agree_on_front l.0 l.1 all in

@@ -14,16 +14,16 @@ use Rattle.gx_processor.specs.declared.status.Status.{Status}
 use Rattle.gx_processor.specs.declared.status.Status.TheVariants.{Done, Usage, Query, Schema, Document, Dynamic, ReadFault, WriteFault, Memory}
 use Rattle.gx_processor.specs.declared.reply.Reply.{Reply}
 use Rattle.gx_processor.specs.declared.reply.Reply.TheVariants.{Output, Fault, Starved}
-use Rattle.gx_processor.specs.Command.{Command, run_file, check_file, command_of, texts_to_compare, AskOfQuery, AskToRun}
+use Rattle.gx_processor.specs.Command.{Command, run_file, check_file, plan_file, command_of, texts_to_compare, AskOfQuery, AskToRun}
 use Rattle.gx_processor.specs.FaultLines.{line, read_fault_line, write_fault_line, code_line}
-use Rattle.gx_processor.specs.Answer.{Answer, writes, refuses, status_of, output_of, AnswersBytes, Answers}
+use Rattle.gx_processor.specs.Answer.{Answer, writes, refuses, status_of, output_of, AnswersBytes, Answers, AreOneButForOutput, AreAlike}
 use Rattle.gx_processor.specs.Ending.{Put, PutOutput, Ends}
 use Rattle.gx_processor.specs.Replies.{HasForm, IsMisuse, IsMisbinding, TellsOf, TellsOfSchema, IsAsked, IsUsageOrStarved}
 use Rattle.gx_processor.specs.Loading.{loads_behind, MayLoad}
 use Rattle.gx_documents.specs.Documents.{Files}
 use Rattle.gx_processor.specs.Run.{Run, WhereTold, IsFaultless, LoadsQuery}
-use Rattle.gx_processor.specs.Promises.{IsCertain, IsCutShort, LeavesAnswer, IsAnswered, MayFollowOutput, PutsOutput, IsLineOf, of_write_fault, of_read_fault, of_refusal, PutsLine, OutputAfter, LineAfter, FailsToWrite, FailsToRead, IsTooLong, ComparesTexts}
-use Rattle.gx_processor.proofs.AnswerLemmas.{answer_unique, answer_at, no_texts, workload_compares_not, same_parts}
+use Rattle.gx_processor.specs.Promises.{IsCertain, IsCutShort, LeavesAnswer, IsAnswered, MayFollowOutput, PutsOutput, IsLineOf, of_write_fault, of_read_fault, of_refusal, PutsLine, OutputAfter, LineAfter, FailsToWrite, FailsToRead, IsTooLong, ComparesTexts, LeavesPart, LeavesOutput}
+use Rattle.gx_processor.proofs.AnswerLemmas.{answers_are_alike, same_alike, answer_at, no_texts, workload_compares_not, same_parts}
 use Rattle.gx_processor.proofs.Told.{told_so, told_always}
 use Rattle.gx_processor.proofs.Course.{Loaded, Course, to_output, to_read_fault, to_refusal, to_no_memory}
 
@@ -148,6 +148,11 @@ query_behind run names (check_file name) asked loaded may = (
   record { command = check_file name; asked = asked; loaded = subst (λ (ns : List (List ℕ)). LoadsOnly run.library ns) may.1 loaded },
   ap loads_behind may.1,
 )
+query_behind run names (plan_file name) asked loaded may = (
+  may.0,
+  record { command = plan_file name; asked = asked; loaded = subst (λ (ns : List (List ℕ)). LoadsOnly run.library ns) may.1 loaded },
+  ap loads_behind may.1,
+)
 query_behind run names (run_file name bindings) asked loaded may = (
   may.0 ++ may.1,
   record { command = run_file name bindings; asked = asked; loaded = subst (λ (ns : List (List ℕ)). LoadsOnly run.library ns) may.2 loaded },
@@ -203,15 +208,18 @@ line_promised run (to_no_memory m u v) = subst (λ (s : Status). LineAfter s run
 
 -- a part of the output
 abbrev PartOfOutput : Run → Files → Type 0
-PartOfOutput run files = (answer : Answer) → Answers run.words files answer → IsCutShort run.status → GrewByPrefix run.out (output_of answer)
+PartOfOutput run files = (answer : Answer) → Answers run.words files answer → IsCutShort run.status → LeavesPart run files answer
 
 untouched_is_part : (run : Run) → IsUntouched run.out → WhereTold run (PartOfOutput run)
-untouched_is_part run u = told_always (run.library.files run.library.before) (PartOfOutput run) (λ files answer h cut. untouched_grows run.out (output_of answer) u)
+untouched_is_part run u =
+    told_always (run.library.files run.library.before) (PartOfOutput run)
+    (λ files answer h cut. (record { other = answer; answers = h; alike = same_alike (command_of run.words) answer answer refl }, untouched_grows run.out (output_of answer) u))
 
 pub part_promised : ImportsAreOne → (run : Run) → Course run → WhereTold run (PartOfOutput run)
 part_promised single run (to_output bytes asked a p) =
     told_so (run.library.files run.library.before) (λ files. Answers run.words files (writes bytes)) (PartOfOutput run)
-    (λ files h answer k cut. subst (λ (b : Answer). GrewByPrefix run.out (output_of b)) (answer_unique single run.words files (writes bytes) answer h k) (output_part bytes run.status run.out run.err p).1) a
+    (λ files h answer k cut.
+    (record { other = writes bytes; answers = h; alike = answers_are_alike single run.words files (writes bytes) answer h k }, (output_part bytes run.status run.out run.err p).1)) a
 part_promised single run (to_read_fault file f rose u p) = untouched_is_part run u
 part_promised single run (to_refusal status line form l a u p) = untouched_is_part run u
 part_promised single run (to_no_memory m u v) = untouched_is_part run u
@@ -306,11 +314,29 @@ AnsweredOrStarved run files = IsAnswered run files ⊎ (run.status ≡ Memory)
 pub faultless_answered : (run : Run) → Course run → (files : Files) → (IsCertain run.status → IsAnswered run files) → IsFaultless run → AnsweredOrStarved run files
 faultless_answered run course files answered f = elim (faultless_is_certain run course f) [ inl c ↦ inl (answered c) | inr m ↦ inr m ]
 
-pub complete_at : ImportsAreOne → (run : Run) (files : Files) (bytes : List ℕ) → Answers run.words files (writes bytes) → AnsweredOrStarved run files → ((run.status ≡ Done) × Took run.out bytes) ⊎ (run.status ≡ Memory)
+-- an answer that is alike to an output is an output
+output_or_not : (a : Answer) (bytes : List ℕ) → AreOneButForOutput a (writes bytes) → a ≡ writes (output_of a)
+output_or_not (writes others) bytes h = refl
+output_or_not (refuses status line) bytes h = cc h
+
+output_itself : (a : Answer) (bytes : List ℕ) → a ≡ writes bytes → a ≡ writes (output_of a)
+output_itself a bytes e = e ∙ sym (ap (λ (x : Answer). writes (output_of x)) e)
+
+output_alike : (asked : Option Command) (a : Answer) (bytes : List ℕ) → AreAlike asked a (writes bytes) → a ≡ writes (output_of a)
+output_alike None a bytes h = output_itself a bytes h
+output_alike (Some (run_file name bindings)) a bytes h = output_itself a bytes h
+output_alike (Some (check_file name)) a bytes h = output_itself a bytes h
+output_alike (Some (plan_file name)) a bytes h = output_or_not a bytes h
+
+pub complete_at : ImportsAreOne → (run : Run) (files : Files) (bytes : List ℕ) → Answers run.words files (writes bytes) → AnsweredOrStarved run files → ((run.status ≡ Done) × LeavesOutput run files (writes bytes)) ⊎ (run.status ≡ Memory)
 complete_at single run files bytes h (inr m) = inr m
 complete_at single run files bytes h (inl answered) =
-    let is = answer_unique single run.words files answered.answer (writes bytes) answered.answers h in
-    inl (answered.status ∙ ap status_of is, (subst (λ (b : Answer). LeavesAnswer b run) is answered.sinks).0)
+    let alike = answers_are_alike single run.words files answered.answer (writes bytes) answered.answers h in
+    let is = output_alike (command_of run.words) answered.answer bytes alike in
+    inl (
+      answered.status ∙ ap status_of is,
+      (record { other = answered.answer; answers = answered.answers; alike = alike }, (subst (λ (b : Answer). LeavesAnswer b run) is answered.sinks).0),
+    )
 
 -- a status other than Done
 abbrev NotDone : Status → Type 0

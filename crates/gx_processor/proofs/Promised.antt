@@ -15,7 +15,7 @@ use Rattle.gx_processor.specs.Run.{Run, WhereTold, IsFaultless}
 use Rattle.gx_processor.specs.Promises.{IsCertain, IsAnswered, LoadsSteps, Promises}
 use Rattle.gx_processor.proofs.Course.{Shows, course_of}
 use Rattle.gx_processor.proofs.PromiseLemmas.{answer_promised, output_put_promised, line_put_promised, output_promised, line_promised, part_promised, CauseOf, cause_promised, usage_promised, too_long_refused, faultless_answered, complete_at, AnsweredOrStarved, compared_promised}
-use Rattle.gx_processor.proofs.HeadlineLemmas.{types_are_kept, typed_run, typed_check, run_as_checked, rejected_query}
+use Rattle.gx_processor.proofs.HeadlineLemmas.{types_are_kept, typed_run, typed_check, typed_plan, run_as_checked, rejected_query}
 
 -- the laws on which the headline stands
 pub record Laws : Type 0 where
@@ -75,4 +75,5 @@ promised run reply laws v =
       checked = told_so told (λ files. IsFaultless run → AnsweredOrStarved run files) _ (λ files a f. typed_check laws.single run files (a f)) faultless;
       as_checked = told_so told (λ files. IsFaultless run → AnsweredOrStarved run files) _ (λ files a f. run_as_checked run files (typed_run laws.single run files kept laws.imports laws.documents laws.trees (a f))) faultless;
       rejected = told_so told (λ files. IsFaultless run → AnsweredOrStarved run files) _ (λ files a f. rejected_query laws.single run files laws.names (a f)) faultless;
+      planned = told_so told (λ files. IsFaultless run → AnsweredOrStarved run files) _ (λ files a f. typed_plan laws.single run files (a f)) faultless;
     }

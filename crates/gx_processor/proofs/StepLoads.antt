@@ -19,7 +19,7 @@ use Rattle.gx_processor.specs.declared.reply.Reply.TheVariants.{Output, Fault, S
 use Rattle.gx_processor.specs.declared.refusal.Refusal.{Refusal}
 use Rattle.gx_processor.specs.declared.refusal.Refusal.TheVariants as refusal
 use Rattle.gx_processor.specs.Answer.{can_be_written}
-use Rattle.gx_processor.specs.Command.{Command, run_file, check_file, query_file}
+use Rattle.gx_processor.specs.Command.{Command, run_file, check_file, plan_file, query_file}
 use Rattle.gx_processor.specs.Ending.{Ends}
 use Rattle.gx_processor.specs.Externals.{external_words, documents_bound}
 use Rattle.gx_processor.specs.FaultLines.{read_fault_line, code_line, placed_line, binding_line, long_document_line, document_line, invalid_line, import_line}
@@ -58,6 +58,7 @@ behind_once single files name bindings a b (inr h) (inr k) = h.1 ∙ sym k.1
 
 command_once : ImportsAreOne → (files : Files) (command : Command) (a b : List (List ℕ)) → CommandLoads files command a → CommandLoads files command b → a ≡ b
 command_once single files (check_file name) a b h k = one_query_load files name a b h k
+command_once single files (plan_file name) a b h k = one_query_load files name a b h k
 command_once single files (run_file name bindings) a b h k =
     h.4 ∙ ap₂ (λ (front : List (List ℕ)) rest. front ++ rest) (one_query_load files name h.0 k.0 h.2 k.2) (behind_once single files name bindings h.1 k.1 h.3 k.3) ∙ sym k.4
 

@@ -2,7 +2,7 @@
 use Rattle.std.specs.Prelude.{◌≡◌, ℕ, nat_le, Bool, List, [], ◌∷◌, ◌++◌, length, Option, None, Some, Result, Ok, Err, MatchBool, ◌⊎◌}
 use Rattle.std.specs.Str.{chars}
 use Rattle.gx_base.specs.declared.place.Place.{Place}
-use Rattle.gx_base.specs.declared.code.Code.TheVariants.{GLXS0001, XPST0003, SENR0001}
+use Rattle.gx_base.specs.declared.code.Code.TheVariants.{GLXS0001, SENR0001}
 use Rattle.gx_base.specs.declared.type_name.Builtin.TheVariants as builtins
 use Rattle.gx_base.specs.declared.type_name.TypeName.TheVariants as names
 use Rattle.gx_types.specs.declared.item_type.ItemType.TheVariants as items
@@ -34,12 +34,13 @@ use Rattle.gx_processor.specs.RuleCode.{rule_code}
 use Rattle.gx_processor.specs.NamedQuery.{NamedQuery, named_query, unknown_name, query_named}
 use Rattle.gx_processor.specs.Serialisation.{serialised}
 use Rattle.gx_processor.specs.TypeBytes.{type_bytes}
+use Rattle.gx_processor.specs.PlanBytes.{IsPlanText}
 use Rattle.gx_documents.specs.Bindings.{Misbound, misbound}
 use Rattle.gx_documents.specs.Documents.{Files, Request, tree_requests, document_nodes}
 use Rattle.gx_processor.specs.Externals.{external_words, documents_bound}
 use Rattle.gx_processor.specs.SchemaFiles.{schema_files, schema_requests, file_name_at}
 use Rattle.gx_schema.specs.Import.{Imported, declares, breaks, IsImported}
-use Rattle.gx_processor.specs.Command.{Command, run_file, check_file, query_file, command_of, texts_to_compare, workload_asked}
+use Rattle.gx_processor.specs.Command.{Command, run_file, check_file, plan_file, query_file, command_of, texts_to_compare, workload_asked}
 use Rattle.gx_demo.specs.Workload.{workload_query, workload_binding, workload_files}
 use Rattle.gx_processor.specs.FaultLines.{line, usage_line, left_type_line, right_type_line, read_fault_line, code_line, placed_line, binding_line, long_document_line, document_line, invalid_line, import_line, shown_with}
 use Rattle.gx_base.specs.declared.limits.TheConstants.{FILE_BYTES}
@@ -113,10 +114,15 @@ AnswersRun files bindings schemas core typing answer =
     MatchBool (can_be_written schemas typing) (AnswersBound files schemas core bindings (misbound (external_words core.declarations) bindings) answer)
     (answer ≡ refuses status.Query (placed_line SENR0001 (outer_of core.body)))
 
--- what a command does with a query that has a type: a run evaluates it, and a check writes its type
+-- the text of a plan of the query
+abbrev pub AnswersPlanned : SchemaSet → TypedCore → Answer → Type 0
+AnswersPlanned schemas typing answer = (bytes : List ℕ) × IsPlanText schemas typing bytes × (answer ≡ writes bytes)
+
+-- what a command does with a query that has a type: a run evaluates it, a check writes its type, and a plan is compiled, rewritten and written
 abbrev pub AnswersTyped : Files → Command → SchemaSet → Core → TypedCore → Answer → Type 0
 AnswersTyped files (run_file name bindings) schemas core typing answer = AnswersRun files bindings schemas core typing answer
 AnswersTyped files (check_file name) schemas core typing answer = answer ≡ writes (type_bytes (query_type typing))
+AnswersTyped files (plan_file name) schemas core typing answer = AnswersPlanned schemas typing answer
 
 -- typing
 abbrev pub AnswersJudged : Files → Command → SchemaSet → Core → QueryJudgement → Answer → Type 0
@@ -192,6 +198,22 @@ AnswersWords files None None asked answer = AnswersCommand files asked answer
 abbrev pub Answers : List (List ℕ) → Files → Answer → Type 0
 Answers words files answer = AnswersWords files (texts_to_compare words) (workload_asked words) (command_of words) answer
 
+-- two outputs, whatever they are, or one refusal
+abbrev pub AreOneButForOutput : Answer → Answer → Type 0
+AreOneButForOutput (writes bytes) (writes others) = Unit {0}
+AreOneButForOutput answer other = answer ≡ other
+
+-- two answers to a command are one; but a query may have several plans, so that two outputs of plans need not be one
+abbrev pub AreAlike : Option Command → Answer → Answer → Type 0
+AreAlike (Some (plan_file name)) answer other = AreOneButForOutput answer other
+AreAlike _ answer other = answer ≡ other
+
+-- all answers to the words over the files are alike
+abbrev pub AnswersAreAlike : Type 0
+AnswersAreAlike =
+    (words : List (List ℕ)) (files : Files) (answer other : Answer) → Answers words files answer → Answers words files other
+    → AreAlike (command_of words) answer other
+
 -- there is an answer to all words and files
 abbrev pub AnAnswerExists : Type 0
 AnAnswerExists = (words : List (List ℕ)) (files : Files) → (answer : Answer) × Answers words files answer
@@ -201,3 +223,10 @@ abbrev pub ChecksRefuseForRuns : Type 0
 ChecksRefuseForRuns =
     (files : Files) (name : List ℕ) (bindings : List (List ℕ)) (status : Status) (line : List ℕ)
     → AnswersCommand files (Some (check_file name)) (refuses status line) → AnswersCommand files (Some (run_file name bindings)) (refuses status line)
+
+-- for the plan of a file the same is refused as for a check of it, and nothing else, with the same line
+abbrev pub PlansRefuseAsChecks : Type 0
+PlansRefuseAsChecks =
+    (files : Files) (name : List ℕ) (status : Status) (line : List ℕ)
+    → (AnswersCommand files (Some (check_file name)) (refuses status line) → AnswersCommand files (Some (plan_file name)) (refuses status line))
+    × (AnswersCommand files (Some (plan_file name)) (refuses status line) → AnswersCommand files (Some (check_file name)) (refuses status line))

@@ -4,15 +4,18 @@ use Rattle.std.specs.List.{list_all, list_any}
 use Rattle.gx_base.specs.declared.limits.TheConstants.{WORD_BYTES}
 use Rattle.gx_demo.specs.Workload.{items_asked}
 
--- what the program is asked to do with the query in a file: to run it, with words that bind its external variables, or to check it
+-- what the program is asked to do with the query in a file: to run it, with words that bind its external variables, to check it, or to
+-- write its plan
 pub data Command : Type 0 where
   run_file : (name : List ℕ) (bindings : List (List ℕ)) → Command
   check_file : (name : List ℕ) → Command
+  plan_file : (name : List ℕ) → Command
 
 -- the file of the query
 abbrev pub query_file : Command → List ℕ
 query_file (run_file name bindings) = name
 query_file (check_file name) = name
+query_file (plan_file name) = name
 
 -- the bytes of each word
 abbrev pub bytes_of : {Z : Type 0} → List (String Z) → List (List ℕ)
@@ -35,9 +38,10 @@ has_no_word (word ∷ words) = false
 abbrev pub command_named : List ℕ → List ℕ → List (List ℕ) → Option Command
 command_named name file others =
     if bytes_eq name (codes "run") && list_all is_binding others then Some (run_file file others)
-    else (if bytes_eq name (codes "check") && has_no_word others then Some (check_file file) else None)
+    else (if bytes_eq name (codes "check") && has_no_word others then Some (check_file file)
+    else (if bytes_eq name (codes "plan") && has_no_word others then Some (plan_file file) else None))
 
--- the commands over a query are `run FILE NAME=FILE ..` and `check FILE`
+-- the commands over a query are `run FILE NAME=FILE ..`, `check FILE` and `plan FILE`
 abbrev pub command_of : List (List ℕ) → Option Command
 command_of (name ∷ file ∷ others) = if is_operand file then command_named name file others else None
 command_of _ = None
@@ -52,6 +56,10 @@ AskOfQuery words = (command : Command) × (command_of words ≡ Some command)
 -- the words are `run FILE NAME=FILE ..`
 abbrev pub AskToRun : List (List ℕ) → Type 0
 AskToRun words = (name : List ℕ) × (bindings : List (List ℕ)) × (command_of words ≡ Some (run_file name bindings))
+
+-- the words are `plan FILE`
+abbrev pub AskForPlan : List (List ℕ) → Type 0
+AskForPlan words = (name : List ℕ) × (command_of words ≡ Some (plan_file name))
 
 -- the two texts of `subtype TEXT TEXT`
 abbrev pub texts_to_compare : List (List ℕ) → Option (List ℕ × List ℕ)

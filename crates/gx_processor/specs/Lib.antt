@@ -1,6 +1,7 @@
 pub mod Query
 pub mod Serialisation
 pub mod TypeBytes
+pub mod PlanBytes
 pub mod Command
 pub mod CommandView
 pub mod FaultLines
@@ -17,6 +18,7 @@ pub mod ImportReplies
 pub mod QueryReplies
 pub mod RunReplies
 pub mod Headline
+pub mod PlannedQueries
 pub mod Promises
 pub mod NamedQuery
 pub mod ExternalDocuments

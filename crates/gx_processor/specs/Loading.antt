@@ -9,7 +9,7 @@ use Rattle.gx_tree.specs.PlainTree.{PlainTree}
 use Rattle.gx_documents.specs.Bindings.{Misbound, misbound, bound_file, is_one_of}
 use Rattle.gx_documents.specs.Documents.{Files, Request, tree_requests, DocumentsLoaded}
 use Rattle.gx_processor.specs.Externals.{external_words, documents_bound}
-use Rattle.gx_processor.specs.Command.{Command, run_file, check_file, command_of}
+use Rattle.gx_processor.specs.Command.{Command, run_file, check_file, plan_file, command_of}
 use Rattle.gx_processor.specs.Query.{HoldsSyntax, HoldsQuery}
 use Rattle.gx_processor.specs.SchemaFiles.{schema_requests}
 
@@ -46,6 +46,7 @@ BehindQuery files name bindings loads =
 -- a command loads the file of the query and its schema files, and a run its documents
 abbrev pub CommandLoads : Files → Command → (loads : List (List ℕ)) → Type 0
 CommandLoads files (check_file name) loads = QueryLoads files name loads
+CommandLoads files (plan_file name) loads = QueryLoads files name loads
 CommandLoads files (run_file name bindings) loads =
     (front : List (List ℕ)) × (rest : List (List ℕ)) × QueryLoads files name front × BehindQuery files name bindings rest × (loads ≡ front ++ rest)
 
@@ -77,6 +78,7 @@ loads_behind (file ∷ files) = files
 abbrev pub MayLoad : Option Command → (loads : List (List ℕ)) → Type 0
 MayLoad None loads = loads ≡ []
 MayLoad (Some (check_file name)) loads = (schemas : List (List ℕ)) × (loads ≡ name ∷ schemas)
+MayLoad (Some (plan_file name)) loads = (schemas : List (List ℕ)) × (loads ≡ name ∷ schemas)
 MayLoad (Some (run_file name bindings)) loads =
     (schemas : List (List ℕ)) × (documents : List (List ℕ)) × (loads ≡ name ∷ schemas ++ documents) × AreBoundFiles bindings documents
 

@@ -8,10 +8,11 @@ use Rattle.gx_io.specs.LibraryUse.{LoadsOnly}
 use Rattle.gx_io.specs.SinkUse.{IsUntouched, GrewByPrefix, Took, TookPart, SinkFailed}
 use Rattle.gx_processor.specs.declared.status.Status.{Status}
 use Rattle.gx_processor.specs.declared.status.Status.TheVariants.{Done, Usage, Query, Schema, Document, Dynamic, ReadFault, WriteFault, Memory}
-use Rattle.gx_processor.specs.Answer.{Answer, writes, refuses, Answers, status_of, output_of}
+use Rattle.gx_processor.specs.Answer.{Answer, writes, refuses, Answers, AreAlike, status_of, output_of}
 use Rattle.gx_processor.specs.Command.{Command, query_file, command_of, texts_to_compare, AskToRun}
 use Rattle.gx_processor.specs.FaultLines.{line, read_fault_line, code_line, IsQueryLine, write_fault_line}
 use Rattle.gx_processor.specs.Headline.{RunsTyped, ChecksTyped, RunsAsChecked, RejectsUntyped}
+use Rattle.gx_processor.specs.PlannedQueries.{PlansTyped}
 use Rattle.std.specs.Str.{chars}
 use Rattle.gx_subtype.specs.Comparison.{IsAnswerText}
 use Rattle.gx_documents.specs.Documents.{Files}
@@ -47,6 +48,20 @@ pub record IsAnswered (run : Run) (files : Files) : Type 0 where
   pub answers : Answers run.words files answer
   pub status : run.status ≡ status_of answer
   pub sinks : LeavesAnswer answer run
+
+-- an answer that is alike to this one: this one itself, unless the words ask for a plan
+pub record AnswerAlike (words : List (List ℕ)) (files : Files) (answer : Answer) : Type 0 where
+  pub other : Answer
+  pub answers : Answers words files other
+  pub alike : AreAlike (command_of words) other answer
+
+-- a part of its output is on `out`
+abbrev pub LeavesPart : Run → Files → Answer → Type 0
+LeavesPart run files answer = (alike : AnswerAlike run.words files answer) × GrewByPrefix run.out (output_of alike.other)
+
+-- its output is there
+abbrev pub LeavesOutput : Run → Files → Answer → Type 0
+LeavesOutput run files answer = (alike : AnswerAlike run.words files answer) × Took run.out (output_of alike.other)
 
 -- the statuses that can follow a put of the output
 abbrev pub MayFollowOutput : Status → Type 0
@@ -141,7 +156,7 @@ pub record Promises (run : Run) : Type 0 where
   -- What the sinks hold after each status.
   pub output : OutputAfter run.status run
   pub line : LineAfter run.status run
-  pub part : WhereTold run (λ files. (answer : Answer) → Answers run.words files answer → IsCutShort run.status → GrewByPrefix run.out (output_of answer))
+  pub part : WhereTold run (λ files. (answer : Answer) → Answers run.words files answer → IsCutShort run.status → LeavesPart run files answer)
   -- When each status comes.
   pub usage : run.status ≡ Usage → (line : List ℕ) × (IsMisuse run.words line ⊎ IsMisbinding run.words line)
   pub usage_always : (line : List ℕ) → IsMisuse run.words line → (run.status ≡ Usage) ⊎ IsCutShort run.status
@@ -152,7 +167,7 @@ pub record Promises (run : Run) : Type 0 where
   pub read_fault : run.status ≡ ReadFault → FailsToRead run
   pub write_fault : run.status ≡ WriteFault → FailsToWrite run
   pub too_long : WhereTold run (λ files. IsTooLong run.words files → IsCertain run.status → (run.status ≡ Query) × Took run.err (code_line GLXS0001))
-  pub complete : WhereTold run (λ files. (bytes : List ℕ) → Answers run.words files (writes bytes) → IsFaultless run → ((run.status ≡ Done) × Took run.out bytes) ⊎ (run.status ≡ Memory))
+  pub complete : WhereTold run (λ files. (bytes : List ℕ) → Answers run.words files (writes bytes) → IsFaultless run → ((run.status ≡ Done) × LeavesOutput run files (writes bytes)) ⊎ (run.status ≡ Memory))
   -- What a comparison of two type texts writes, whatever files there are.
   pub compared : ComparesTexts run
   -- The headline: a query that has a type, run and checked, and one that typing rejects.
@@ -160,3 +175,5 @@ pub record Promises (run : Run) : Type 0 where
   pub checked : WhereTold run (λ files. IsFaultless run → ChecksTyped run files)
   pub as_checked : WhereTold run (λ files. IsFaultless run → RunsAsChecked run files)
   pub rejected : WhereTold run (λ files. IsFaultless run → RejectsUntyped run files)
+  -- The plan of a query that has a type.
+  pub planned : WhereTold run (λ files. IsFaultless run → PlansTyped run files)

@@ -4,9 +4,10 @@ use Rattle.std.specs.String.{string_bytes}
 use Rattle.gx_base.specs.Code.{is_dynamic, is_static}
 use Rattle.gx_core.specs.Queries.{Core, TypedCore, CoreDeclaration}
 use Rattle.gx_core.specs.QueryMeaning.{plain_query, query_type}
-use Rattle.gx_processor.specs.Command.{Command, run_file, check_file}
+use Rattle.gx_processor.specs.Command.{Command, run_file, check_file, plan_file}
 use Rattle.gx_types.specs.SchemaSet.{SchemaSet}
 use Rattle.gx_processor.specs.TypeBytes.{type_bytes}
+use Rattle.gx_processor.specs.PlanBytes.{IsPlanText}
 use Rattle.gx_io.specs.LibraryUse.{LibraryUse, LoadsOnly}
 use Rattle.gx_documents.specs.Bindings.{Misbound, misbound, files_bound}
 use Rattle.gx_documents.specs.Documents.{Asked}
@@ -88,19 +89,24 @@ pub record ReadSo {Z : Type 0} (library : LibraryUse) (asked : List Asked) (sche
   pub reads : ReadDocuments library schemas asked read
   pub follows : Follows schemas core read result
 
--- a check writes, or memory is wanting
+-- a check or a plan is written, or memory is wanting
 abbrev pub IsWrittenOrStarved : {V : Type 0} → Result V Refusal → Type 0
 IsWrittenOrStarved (Ok v) = Unit {0}
 IsWrittenOrStarved (Err refusal.Memory) = Unit {0}
 IsWrittenOrStarved (Err _) = ⊥
 
--- the text of the type, or memory is wanting
-abbrev pub WritesType : {Z : Type 0} → TypedCore → Result (String Z) Refusal → Type 0
-WritesType core (Ok text) = string_bytes text ≡ type_bytes (query_type core)
-WritesType core (Err refusal.Memory) = Unit {0}
-WritesType core (Err _) = ⊥
+-- a text whose bytes are such, or memory is wanting
+abbrev pub WritesSuch : {Z : Type 0} → (IsSuch : List ℕ → Type 0) → Result (String Z) Refusal → Type 0
+WritesSuch IsSuch (Ok text) = IsSuch (string_bytes text)
+WritesSuch IsSuch (Err refusal.Memory) = Unit {0}
+WritesSuch IsSuch (Err _) = ⊥
+
+-- the text of the type
+abbrev pub IsTextOfType : TypedCore → (bytes : List ℕ) → Type 0
+IsTextOfType core bytes = bytes ≡ type_bytes (query_type core)
 
 -- what a command over a query that has a type says
 abbrev pub TypedSo : {Z : Type 0} → LibraryUse → Command → SchemaSet → TypedCore → Result (String Z) Refusal → Type 0
 TypedSo library (run_file name bindings) schemas core result = RunsSo library bindings schemas core result
-TypedSo library (check_file name) schemas core result = WritesType core result × (library.after ≡ library.before)
+TypedSo library (check_file name) schemas core result = WritesSuch (IsTextOfType core) result × (library.after ≡ library.before)
+TypedSo library (plan_file name) schemas core result = WritesSuch (IsPlanText schemas core) result × (library.after ≡ library.before)

@@ -16,6 +16,8 @@ pub enum Command<'a> {
     Run(&'a str, &'a [String]),
     /// `check FILE`: the type of the query.
     Check(&'a str),
+    /// `plan FILE`: the plan of the query.
+    Plan(&'a str),
 }
 
 impl<'a> Command<'a> {
@@ -28,7 +30,7 @@ impl<'a> Command<'a> {
         ensures { result.now ≡ query_file (plain_command self.entry) }
     {
         match self {
-            Command::Run(file, _) | Command::Check(file) => file,
+            Command::Run(file, _) | Command::Check(file) | Command::Plan(file) => file,
         }
     }
 }
@@ -84,6 +86,9 @@ fn command_named<'a>(name: &str, file: &'a str, others: &'a [String]) -> Option<
     }
     if name == "check" && others.is_empty() {
         return Some(Command::Check(file));
+    }
+    if name == "plan" && others.is_empty() {
+        return Some(Command::Plan(file));
     }
     None
 }

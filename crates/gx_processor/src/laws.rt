@@ -1,12 +1,11 @@
 // Laws of the answer.
 
-ghost use Rattle.std.specs.Prelude.{◌≡◌, ℕ, List};
-ghost use Rattle.gx_processor.specs.Answer.{Answer, Answers, AnAnswerExists, ChecksRefuseForRuns};
+ghost use Rattle.gx_processor.specs.Answer.{AnAnswerExists, AnswersAreAlike, ChecksRefuseForRuns, PlansRefuseAsChecks};
 ghost use Rattle.gx_processor.specs.Loading.{AnswersLookAtTheirLoads};
-ghost use Rattle.gx_documents.specs.Documents.{Files};
 ghost use Rattle.gx_processor.specs.ExternalDocuments.{NamedQueriesHaveDocuments};
 ghost use Rattle.gx_processor.specs.JudgedQueries.{NamedQueriesAreJudgedByInclusion, NamedQueriesNameWrittenTypes};
 
+use gx_rewrite::laws::plans_can_be_rewritten;
 use gx_schema::laws::{an_import_exists, imports_are_one, imports_are_schema_sets};
 
 /// The words and the files have an answer.
@@ -15,11 +14,12 @@ pub fn an_answer_exists()
 {
     imports_are_schema_sets();
     an_import_exists();
+    plans_can_be_rewritten();
 }
 
-/// The words and the files have at most one answer.
+/// The words and the files have at most one answer; where the words ask for a plan, its answers differ in nothing but the text of the plan.
 pub fn one_answer()
-    ensures { (words : List (List ℕ)) (files : Files) (a b : Answer) → Answers words files a → Answers words files b → a ≡ b }
+    ensures { AnswersAreAlike }
 {
     imports_are_one();
 }
@@ -27,6 +27,11 @@ pub fn one_answer()
 /// What a check of a file refuses, a run of it refuses with the same line.
 pub fn checks_refuse_for_runs()
     ensures { ChecksRefuseForRuns }
+{}
+
+/// For the plan of a file the same is refused as for a check of it, with the same line.
+pub fn plans_refuse_as_checks()
+    ensures { PlansRefuseAsChecks }
 {}
 
 /// An answer looks at no other files than those that its steps load.

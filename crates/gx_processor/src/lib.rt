@@ -5,6 +5,7 @@ mod command;
 mod imports;
 pub mod laws;
 mod output;
+mod plan;
 pub mod processor;
 mod query;
 mod refusal;

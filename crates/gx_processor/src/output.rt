@@ -10,12 +10,16 @@ ghost use Rattle.gx_processor.specs.Answer.{writes, AnswersCommand};
 ghost use Rattle.gx_processor.specs.Command.{IsRunCommand};
 ghost use Rattle.gx_processor.specs.CommandView.{plain_command};
 ghost use Rattle.gx_processor.specs.Replies.{RefusesSo, HasCause, OutputLoads};
+ghost use Rattle.gx_processor.specs.FaultLines.{line};
 ghost use Rattle.gx_processor.specs.TypeBytes.{type_bytes};
+ghost use Rattle.std.specs.Str.{encode_utf8_all};
 
 use crate::command::Command;
+use crate::plan::plan_text;
 use crate::query::{TypedQuery, typed_query};
 use crate::refusal::Refusal;
 use crate::run::run;
+use gx_base::text::Text;
 use gx_core::dismantle::dismantle_query;
 use gx_core::expression::TypedCore;
 use gx_io::Library;
@@ -24,7 +28,7 @@ use gx_types::sequence_type::Ty;
 use gx_typetext::print::print_type;
 use std::alloc::{AllocError, Global};
 
-/// What a command writes: the serialisation of the query's value over its documents, or the text of its type.
+/// What a command writes: the serialisation of the query's value over its documents, the text of its type, or that of its plan.
 pub fn output<L: Library>(
     alloc: Global,
     command: Command<'_>,
@@ -63,6 +67,7 @@ fn typed_output<L: Library>(
     match command {
         Command::Run(_, words) => run(alloc, query, words, library),
         Command::Check(_) => Ok(type_text(alloc, query.core)?),
+        Command::Plan(_) => Ok(plan_text(alloc, query)?),
     }
 }
 
@@ -73,6 +78,13 @@ fn type_text(alloc: Global, core: TypedCore) -> Result<String, AllocError>
     let kind: Result<Ty, AllocError> = core.body.kind.clone();
     dismantle_query(alloc, core);
     let text = print_type(alloc, &kind?)?;
+    line_of(alloc, &text)
+}
+
+// A text and a line feed.
+pub(crate) fn line_of(alloc: Global, text: &Text) -> Result<String, AllocError>
+    ensures { IfOk result (λ made. string_bytes made ≡ line (encode_utf8_all text.now)) }
+{
     let mut line = String::from_str(alloc, text.as_str())?;
     line.push('\n')?;
     Ok(line)

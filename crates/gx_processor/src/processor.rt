@@ -45,6 +45,7 @@ use std::alloc::{AllocError, Global};
 /// `run FILE NAME=FILE ..` writes the value of the query in the file, on the documents that its external variables are bound to
 /// (XQuery 1.0, section 2.2; Serialization, section 2), each validated first where the type of its variable names a global element
 /// (XML Schema 1.0 part 1, section 3.3.4), and `check FILE` writes the text of the type that the static rules give the query (XQuery 1.0, section 2.2.3.1).
+/// `plan FILE` writes the text of a plan of the query to which no rule of rewriting applies, and a line feed.
 /// `subtype TEXT TEXT` writes whether the type of the left text is included in that of the right one (XQuery 1.0 and XPath
 /// 2.0 Formal Semantics, section 8.3): `yes`, `no: ` with the first list of shapes that is not, or `unknown`.
 /// `demo N` writes what a query answers over an auction of N items that it makes itself, and a line feed.

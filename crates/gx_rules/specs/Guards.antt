@@ -1,6 +1,6 @@
 -- What a rule of rewriting may ask of an expression: that it cannot raise an error and makes no node, that it gives nodes in document order,
 -- or that it does not name a variable.
-use Rattle.std.specs.Prelude.{ℕ, zero, suc, nat_eq, Bool, true, false, not, ◌&&◌, ◌||◌, List, [], ◌∷◌}
+use Rattle.std.specs.Prelude.{ℕ, zero, nat_eq, Bool, true, false, ◌&&◌, ◌||◌, List, [], ◌∷◌}
 use Rattle.gx_base.specs.declared.type_name.Builtin.{Builtin}
 use Rattle.gx_base.specs.declared.type_name.Builtin.TheVariants as builtins
 use Rattle.gx_types.specs.SchemaSet.{SchemaSet}
@@ -25,9 +25,8 @@ use Rattle.gx_core.specs.declared.expression.BinaryClass.TheVariants as classes
 use Rattle.gx_core.specs.BinaryOperators.{class_of}
 use Rattle.gx_core.specs.declared.operator.Operator.{Operator}
 use Rattle.gx_core.specs.declared.operator.Operator.TheVariants as operators
-use Rattle.gx_core.specs.Expression.{Expression, At, Parts, no_parts, a_part}
+use Rattle.gx_core.specs.Expression.{At, Parts, no_parts, a_part}
 use Rattle.gx_core.specs.FreeVariables.{names_variable}
-use Rattle.gx_static.specs.declared.comparison.Family.{Family}
 use Rattle.gx_static.specs.declared.comparison.Family.TheVariants as families
 use Rattle.gx_static.specs.Rule.{all_items, is_atomic_in, is_of_family, are_of_family, is_at_most_one}
 use Rattle.gx_plan.specs.declared.plan.Role.{Role}
@@ -121,6 +120,11 @@ is_quiet_operator schemas role (operators.Call function) parts =
     is_quiet_function function && are_converted_quietly schemas (parameters_of function) parts
 is_quiet_operator schemas role _ parts = true
 
+-- the operator of an expression
+abbrev pub is_quiet_at : SchemaSet → PlanExpression → Bool
+is_quiet_at schemas (At place outer carried operator parts) = is_quiet_operator schemas carried.role operator (kinds_carried parts)
+
+-- and all operators in it
 abbrev mutual
   pub is_quiet : SchemaSet → PlanExpression → Bool
   is_quiet schemas (At place outer carried operator parts) =
@@ -176,7 +180,11 @@ is_sorted (At place outer carried operator parts) = gives_nodes_in_order operato
 
 -- ---- names
 
--- a variable is named in an expression
+-- the operator of an expression names a variable
+abbrev pub names_at : PlanExpression → ℕ → Bool
+names_at (At place outer carried operator parts) number = names_variable operator number
+
+-- and so does an operator in it
 abbrev mutual
   pub is_named_in : PlanExpression → ℕ → Bool
   is_named_in (At place outer carried operator parts) number = names_variable operator number || is_named_in_parts parts number

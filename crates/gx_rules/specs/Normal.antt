@@ -1,20 +1,19 @@
 -- Plans that rules lead from and to, and plans to which no rule applies.
-use Rattle.std.specs.Prelude.{◌≡◌, ℕ, zero, suc, List, [], ◌∷◌, Option, None, Some, ◌⊎◌}
+use Rattle.std.specs.Prelude.{◌≡◌, ℕ, zero, suc, List, [], ◌∷◌, None, Some, ◌⊎◌}
 use Rattle.gx_core.specs.declared.expression.Declaration.{Declaration}
 use Rattle.gx_core.specs.declared.expression.Declaration.TheVariants.{Global, Function}
 use Rattle.gx_core.specs.declared.expression.DeclaredFunction.{DeclaredFunction}
-use Rattle.gx_core.specs.declared.expression.Query.{Query}
-use Rattle.gx_core.specs.Expression.{Expression, At, Parts, no_parts, a_part}
+use Rattle.gx_core.specs.Expression.{At, Parts, no_parts, a_part}
 use Rattle.gx_plan.specs.declared.plan.Carried.{Carried}
 use Rattle.gx_plan.specs.Plan.{PlanExpression, PlanQuery}
-use Rattle.gx_rules.specs.Rules.{RuleSetting, Rule, applied}
+use Rattle.gx_rules.specs.Rules.{RuleSetting, RewritingRule, rewritten_by}
 
 -- ---- one application of a rule
 
 -- a rule applies to an expression, and gives another
 pub record Applies (setting : RuleSetting) (e other : PlanExpression) : Type 0 where
-  pub rule : Rule
-  pub gives : applied setting rule e ≡ Some other
+  pub rule : RewritingRule
+  pub gives : rewritten_by setting rule e ≡ Some other
 
 -- at an expression, or at one place inside it, around which all stays
 abbrev mutual
@@ -40,15 +39,15 @@ pub record ReachesBy {P : Type 0} (Steps : P → P → Type 0) (p other : P) : T
   pub applications : ℕ
   pub reached : ReachesIn Steps applications p other
 
-abbrev pub Reaches : RuleSetting → PlanExpression → PlanExpression → Type 0
-Reaches setting e other = ReachesBy (StepsTo setting) e other
+abbrev pub PlanReaches : RuleSetting → PlanExpression → PlanExpression → Type 0
+PlanReaches setting e other = ReachesBy (StepsTo setting) e other
 
 -- ---- no rule applies to an expression, nor to any inside it
 
 abbrev mutual
   pub IsNormal : RuleSetting → PlanExpression → Type 0
   IsNormal setting (At place outer carried operator parts) =
-      ((rule : Rule) → applied setting rule (At place outer carried operator parts) ≡ None) × AreNormal setting parts
+      ((rule : RewritingRule) → rewritten_by setting rule (At place outer carried operator parts) ≡ None) × AreNormal setting parts
 
   pub AreNormal : RuleSetting → Parts Carried → Type 0
   AreNormal setting no_parts = Unit {0}
@@ -56,8 +55,8 @@ abbrev mutual
 
 -- ---- whole plans: in the value of a global variable, in the body of a function, or in the body of the query
 
-abbrev pub with_body : DeclaredFunction Carried → PlanExpression → DeclaredFunction Carried
-with_body function body =
+abbrev pub function_over : DeclaredFunction Carried → PlanExpression → DeclaredFunction Carried
+function_over function body =
     record { place = function.place; name = function.name; parameters = function.parameters; result = function.result; body = body }
 
 abbrev pub DeclarationStepsTo : RuleSetting → Declaration Carried → Declaration Carried → Type 0
@@ -65,7 +64,7 @@ DeclarationStepsTo setting (Global name binder None) declared = ⊥
 DeclarationStepsTo setting (Global name binder (Some value)) declared =
     (other : PlanExpression) × (declared ≡ Global name binder (Some other)) × StepsTo setting value other
 DeclarationStepsTo setting (Function function) declared =
-    (other : PlanExpression) × (declared ≡ Function (with_body function other)) × StepsTo setting function.body other
+    (other : PlanExpression) × (declared ≡ Function (function_over function other)) × StepsTo setting function.body other
 
 abbrev pub DeclarationsStepTo : RuleSetting → List (Declaration Carried) → List (Declaration Carried) → Type 0
 DeclarationsStepTo setting [] declared = ⊥

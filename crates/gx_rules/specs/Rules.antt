@@ -1,5 +1,5 @@
 -- The rules of rewriting: what stands in the place of an expression that has the form and meets the guard of a rule.
-use Rattle.std.specs.Prelude.{ℕ, zero, suc, pos, nat_eq, Bool, true, false, not, ◌&&◌, ◌||◌, List, [], ◌∷◌, Option, None, Some, if◌then◌else◌}
+use Rattle.std.specs.Prelude.{ℕ, zero, suc, pos, nat_eq, Bool, false, not, ◌&&◌, List, [], ◌∷◌, Option, None, Some, if◌then◌else◌}
 use Rattle.gx_base.specs.declared.place.Place.{Place}
 use Rattle.gx_base.specs.declared.type_name.Builtin.TheVariants as builtins
 use Rattle.gx_base.specs.declared.type_name.TypeName.TheVariants as names
@@ -7,7 +7,6 @@ use Rattle.gx_types.specs.SchemaSet.{SchemaSet}
 use Rattle.gx_types.specs.declared.item_type.ItemType.TheVariants as items
 use Rattle.gx_types.specs.SequenceType.{SequenceType, item, star}
 use Rattle.gx_types.specs.Occurrence.{occurrence_of}
-use Rattle.gx_types.specs.Occurs.{Occurs}
 use Rattle.gx_types.specs.declared.step.Axis.TheVariants as axes
 use Rattle.gx_types.specs.declared.step.Test.{Test}
 use Rattle.gx_types.specs.declared.step.Test.TheVariants as tests
@@ -17,10 +16,9 @@ use Rattle.gx_funcs.specs.declared.function.Function.TheVariants as functions
 use Rattle.gx_funcs.specs.Function.{integer_atom}
 use Rattle.gx_core.specs.declared.expression.Binder.{Binder}
 use Rattle.gx_core.specs.declared.expression.BinaryOp.TheVariants as binary
-use Rattle.gx_core.specs.declared.cases.TypeCase.{TypeCase}
 use Rattle.gx_core.specs.declared.operator.Operator.{Operator}
 use Rattle.gx_core.specs.declared.operator.Operator.TheVariants as operators
-use Rattle.gx_core.specs.Expression.{Expression, At, Parts, no_parts, a_part, one_part, two_parts, three_parts}
+use Rattle.gx_core.specs.Expression.{At, Parts, no_parts, a_part, one_part, two_parts, three_parts}
 use Rattle.gx_core.specs.Bindings.{Types, look_up}
 use Rattle.gx_static.specs.Rule.{Ruling, has_type, has_none, rule, atomic, is_at_most_one}
 use Rattle.gx_plan.specs.declared.plan.Role.{Role}
@@ -37,55 +35,59 @@ pub record RuleSetting : Type 0 where
 -- ---- operators that a rule makes
 
 -- the type that the static rule of an operator gives, and that of any items where it gives none
-abbrev pub type_or_items : Ruling → SequenceType
-type_or_items (has_type t) = t
-type_or_items (has_none code part) = star any_item
+abbrev pub kind_ruled : Ruling → SequenceType
+kind_ruled (has_type t) = t
+kind_ruled (has_none code part) = star any_item
 
 abbrev pub made_kind : SchemaSet → Operator → List SequenceType → SequenceType
-made_kind schemas operator kinds = type_or_items (rule schemas operator kinds)
+made_kind schemas operator kinds = kind_ruled (rule schemas operator kinds)
 
 abbrev pub made_as : Role → SchemaSet → (place : Place) → Operator → Parts Carried → PlanExpression
 made_as role schemas place operator parts =
     At place place (record { kind = made_kind schemas operator (kinds_carried parts); role = role }) operator parts
 
 -- an operator of its own
-abbrev pub made : SchemaSet → (place : Place) → Operator → Parts Carried → PlanExpression
-made schemas place operator parts = made_as roles.Own schemas place operator parts
+abbrev pub made_operator : SchemaSet → (place : Place) → Operator → Parts Carried → PlanExpression
+made_operator schemas place operator parts = made_as roles.Own schemas place operator parts
 
 -- a step, whose type is that of the variable's
 abbrev pub step_kinds : Option SequenceType → List SequenceType
 step_kinds None = []
 step_kinds (Some t) = t ∷ []
 
+abbrev pub IsStepOperator : Operator → Type 0
+IsStepOperator (operators.Step axis asks number) = Unit {0}
+IsStepOperator _ = ⊥
+
 abbrev pub made_step : RuleSetting → (place : Place) → Test → (variable : ℕ) → PlanExpression
 made_step setting place asks variable =
     At place place (own (made_kind setting.schemas (operators.Step axes.Descendant asks variable) (step_kinds (look_up setting.variables variable))))
     (operators.Step axes.Descendant asks variable) no_parts
 
-abbrev pub binder_of : (variable : ℕ) → (place : Place) → Binder
-binder_of variable place = record { variable = variable; place = place; kind = None }
+abbrev pub plain_binder : (variable : ℕ) → (place : Place) → Binder
+plain_binder variable place = record { variable = variable; place = place; kind = None }
 
 abbrev pub made_let : SchemaSet → (place : Place) → Binder → (value body : PlanExpression) → PlanExpression
-made_let schemas place binder value body = made schemas place (operators.Let binder) (two_parts value body)
+made_let schemas place binder value body = made_operator schemas place (operators.Let binder) (two_parts value body)
 
 -- what stands in the place of an expression, where a guard is met
-abbrev pub where_met : Bool → PlanExpression → Option PlanExpression
-where_met guard e = if guard then Some e else None
+abbrev pub if_guarded : Bool → PlanExpression → Option PlanExpression
+if_guarded guard e = if guard then Some e else None
 
 -- ---- document order
 
 -- at most one item is in order
 abbrev pub one : PlanExpression → Option PlanExpression
-one (At place outer carried operators.Order (a_part e no_parts)) = where_met (is_at_most_one (kind_carried e)) e
+one (At place outer carried operators.Order (a_part e no_parts)) = if_guarded (is_at_most_one (kind_carried e)) e
 one _ = None
 
 -- what is in order stays
-abbrev pub sorted : PlanExpression → Option PlanExpression
-sorted (At place outer carried operators.Order (a_part e no_parts)) = where_met (is_sorted e) e
-sorted _ = None
+abbrev pub order_of_sorted : PlanExpression → Option PlanExpression
+order_of_sorted (At place outer carried operators.Order (a_part e no_parts)) = if_guarded (is_sorted e) e
+order_of_sorted _ = None
 
 abbrev pub flat : PlanExpression → Option PlanExpression
-flat (At place outer carried operators.Order (a_part e no_parts)) = where_met (is_flat e) e
+flat (At place outer carried operators.Order (a_part e no_parts)) = if_guarded (is_flat e) e
 flat _ = None
 
 -- ---- `//`
@@ -102,34 +104,34 @@ is_step_to_all_below variable (At place outer carried (operators.Step axes.Desce
 is_step_to_all_below variable _ = false
 
 -- the same binder over the same operand, with a step to the descendants that pass a test
-abbrev pub with_descendants : RuleSetting → (place : Place) → Test → Operator → PlanExpression → Binder → PlanExpression
-with_descendants setting place asks operator source binder =
-    made setting.schemas place operator (two_parts source (made_step setting place asks binder.variable))
+abbrev pub loop_over_descendants : RuleSetting → (place : Place) → Test → Operator → PlanExpression → Binder → PlanExpression
+loop_over_descendants setting place asks operator source binder =
+    made_operator setting.schemas place operator (two_parts source (made_step setting place asks binder.variable))
 
 abbrev pub descending_from : RuleSetting → (place : Place) → Test → (is_own : Bool) → Operator → (source body : PlanExpression) → Option Binder
     → Option PlanExpression
 descending_from setting place asks is_own operator source body None = None
 descending_from setting place asks is_own operator source body (Some binder) =
-    where_met (is_own && is_step_to_all_below binder.variable body) (with_descendants setting place asks operator source binder)
+    if_guarded (is_own && is_step_to_all_below binder.variable body) (loop_over_descendants setting place asks operator source binder)
 
-abbrev pub descending : RuleSetting → Test → PlanExpression → Option PlanExpression
-descending setting asks (At place outer carried operator (a_part source (a_part body no_parts))) =
+abbrev pub with_steps_below : RuleSetting → Test → PlanExpression → Option PlanExpression
+with_steps_below setting asks (At place outer carried operator (a_part source (a_part body no_parts))) =
     descending_from setting place asks (is_own_role carried.role) operator source body (binds_alone operator)
-descending setting asks _ = None
+with_steps_below setting asks _ = None
 
 abbrev pub without_order : PlanExpression → PlanExpression
 without_order (At place outer carried operators.Order (a_part e no_parts)) = e
 without_order e = e
 
 -- an operand in document order
-abbrev pub in_order : SchemaSet → (place : Place) → Option PlanExpression → Option PlanExpression
-in_order schemas place None = None
-in_order schemas place (Some e) = Some (made schemas place operators.Order (one_part e))
+abbrev pub ordered_operand : SchemaSet → (place : Place) → Option PlanExpression → Option PlanExpression
+ordered_operand schemas place None = None
+ordered_operand schemas place (Some e) = Some (made_operator schemas place operators.Order (one_part e))
 
 -- a child step from each node of a source
 abbrev pub slashes_over : RuleSetting → (place : Place) → (variable : ℕ) → (source body : PlanExpression) → Option PlanExpression
 slashes_over setting place variable source (At p o c (operators.Step axes.Child asks number) no_parts) =
-    if nat_eq number variable then in_order setting.schemas place (descending setting asks (without_order source)) else None
+    if nat_eq number variable then ordered_operand setting.schemas place (with_steps_below setting asks (without_order source)) else None
 slashes_over setting place variable source _ = None
 
 -- children of all descendants are descendants
@@ -149,22 +151,22 @@ first_position place = At place place (own (atomic builtins.Integer)) (operators
 
 abbrev pub with_position : SchemaSet → (place : Place) → (position : ℕ) → PlanExpression → PlanExpression
 with_position schemas place zero body = body
-with_position schemas place (suc n) body = made_let schemas place (binder_of (suc n) place) (first_position place) body
+with_position schemas place (suc n) body = made_let schemas place (plain_binder (suc n) place) (first_position place) body
 
 -- a loop over one item is a `let`
-abbrev pub single : SchemaSet → PlanExpression → Option PlanExpression
-single schemas (At place outer carried (operators.For binder position) (a_part source (a_part body no_parts))) =
-    where_met (is_own_role carried.role && occurs_once (kind_carried source))
+abbrev pub single_loop : SchemaSet → PlanExpression → Option PlanExpression
+single_loop schemas (At place outer carried (operators.For binder position) (a_part source (a_part body no_parts))) =
+    if_guarded (is_own_role carried.role && occurs_once (kind_carried source))
     (made_let schemas place binder source (with_position schemas place position body))
-single schemas _ = None
+single_loop schemas _ = None
 
 -- a switch whose first case has every value of the operand, or which has no case
-abbrev pub decided : SchemaSet → PlanExpression → Option PlanExpression
-decided schemas (At place outer carried (operators.Switch [] default) (a_part operand (a_part branch no_parts))) =
-    Some (made_let schemas place (binder_of default place) operand branch)
-decided schemas (At place outer carried (operators.Switch (case ∷ cases) default) (a_part operand (a_part branch branches))) =
-    where_met (is_included schemas (kind_carried operand) case.kind) (made_let schemas place (binder_of case.variable place) operand branch)
-decided schemas _ = None
+abbrev pub decided_switch : SchemaSet → PlanExpression → Option PlanExpression
+decided_switch schemas (At place outer carried (operators.Switch [] default) (a_part operand (a_part branch no_parts))) =
+    Some (made_let schemas place (plain_binder default place) operand branch)
+decided_switch schemas (At place outer carried (operators.Switch (case ∷ cases) default) (a_part operand (a_part branch branches))) =
+    if_guarded (is_included schemas (kind_carried operand) case.kind) (made_let schemas place (plain_binder case.variable place) operand branch)
+decided_switch schemas _ = None
 
 -- ---- what changes nothing
 
@@ -174,8 +176,8 @@ any_atomic_values = star (item (items.Atom (names.Builtin builtins.AnyAtomic)))
 -- a boolean is its own effective boolean value, and atomic values are their own typed values
 abbrev pub idle : SchemaSet → PlanExpression → Option PlanExpression
 idle schemas (At place outer carried (operators.Call functions.Boolean) (a_part e no_parts)) =
-    where_met (is_included schemas (kind_carried e) (atomic builtins.Boolean)) e
-idle schemas (At place outer carried operators.DataOf (a_part e no_parts)) = where_met (is_included schemas (kind_carried e) any_atomic_values) e
+    if_guarded (is_included schemas (kind_carried e) (atomic builtins.Boolean)) e
+idle schemas (At place outer carried operators.DataOf (a_part e no_parts)) = if_guarded (is_included schemas (kind_carried e) any_atomic_values) e
 idle schemas _ = None
 
 -- ---- joins
@@ -195,9 +197,9 @@ pub record Loop : Type 0 where
   pub source : PlanExpression
 
 -- the loops and the test of a join, each marked
-abbrev pub joined : SchemaSet → (outer inner : Loop) → (test comparison absent : Place) → (left_key right_key result : PlanExpression)
+abbrev pub marked_loops : SchemaSet → (outer inner : Loop) → (test comparison absent : Place) → (left_key right_key result : PlanExpression)
     → PlanExpression
-joined schemas outer inner test comparison absent left_key right_key result =
+marked_loops schemas outer inner test comparison absent left_key right_key result =
     made_as roles.Join schemas outer.place (operators.For outer.binder 0) (two_parts outer.source
     (made_as roles.InJoin schemas inner.place (operators.For inner.binder 0) (two_parts inner.source
     (made_as roles.InJoin schemas test operators.If (three_parts
@@ -208,8 +210,8 @@ joined schemas outer inner test comparison absent left_key right_key result =
 abbrev pub join_by_keys : SchemaSet → (outer inner : Loop) → (test absent : Place) → (result comparison : PlanExpression)
     → Option PlanExpression
 join_by_keys schemas outer inner test absent result (At place o c (operators.Binary binary.AnyEq) (a_part left_key (a_part right_key no_parts))) =
-    where_met (may_be_joined schemas outer.binder.variable inner.binder.variable inner.source left_key right_key)
-    (joined schemas outer inner test place absent left_key right_key result)
+    if_guarded (may_be_joined schemas outer.binder.variable inner.binder.variable inner.source left_key right_key)
+    (marked_loops schemas outer inner test place absent left_key right_key result)
 join_by_keys schemas outer inner test absent result _ = None
 
 -- a test inside both loops
@@ -232,16 +234,16 @@ join schemas _ = None
 
 -- ---- all rules
 
-pub data Rule : Type 0 where
-  One Sorted Flat Slashes Single Decided Idle Joins : Rule
+pub data RewritingRule : Type 0 where
+  One Sorted Flat Slashes Single Decided Idle Joins : RewritingRule
 
 -- what stands in the place of an expression by a rule, where the rule applies
-abbrev pub applied : RuleSetting → Rule → PlanExpression → Option PlanExpression
-applied setting One e = one e
-applied setting Sorted e = sorted e
-applied setting Flat e = flat e
-applied setting Slashes e = slashes setting e
-applied setting Single e = single setting.schemas e
-applied setting Decided e = decided setting.schemas e
-applied setting Idle e = idle setting.schemas e
-applied setting Joins e = join setting.schemas e
+abbrev pub rewritten_by : RuleSetting → RewritingRule → PlanExpression → Option PlanExpression
+rewritten_by setting One e = one e
+rewritten_by setting Sorted e = order_of_sorted e
+rewritten_by setting Flat e = flat e
+rewritten_by setting Slashes e = slashes setting e
+rewritten_by setting Single e = single_loop setting.schemas e
+rewritten_by setting Decided e = decided_switch setting.schemas e
+rewritten_by setting Idle e = idle setting.schemas e
+rewritten_by setting Joins e = join setting.schemas e

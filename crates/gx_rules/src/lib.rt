@@ -2,3 +2,6 @@
 #![tactic(auto)]
 
 pub mod flat;
+pub mod made;
+pub mod named;
+pub mod quiet;

@@ -1,5 +1,5 @@
-use Rattle.gx_processor.proofs.AnswerLemmas.{answer_unique}
+use Rattle.gx_processor.proofs.AnswerLemmas.{answers_are_alike}
 use Rattle.gx_processor.proofs.laws.one_answer.Goals as goal
 
 pub returns : goal.returns
-returns c = answer_unique c.imports_are_one.ensures
+returns c = answers_are_alike c.imports_are_one.ensures
