@@ -29,7 +29,7 @@ use Rattle.gx_core.specs.Outcome.{Outcome, gives, raises, wrong}
 use Rattle.gx_core.specs.Soundness.{Setting, Keeps}
 use Rattle.gx_static.specs.Rule.{Ruling, has_type, has_none}
 use Rattle.gx_static.proofs.AtomicTypes.{untyped_is_atomic, boolean_is_atomic, nameable_is_atomic, integer_is_atomic}
-use Rattle.gx_rules.specs.Rules.{type_or_items}
+use Rattle.gx_rules.specs.Rules.{kind_ruled}
 
 -- ---- nodes
 
@@ -123,6 +123,6 @@ keeps_any_items setting is before t wrong h = absurd h
 -- an outcome that keeps some type keeps the one that a rule gives, if it keeps that where the rule gives it
 pub keeps_ruled : (setting : Setting) → IsSchemaSet setting.schemas → (before : Forest) (t : SequenceType) (outcome : Outcome Items) (ruling : Ruling)
     → Keeps setting before t outcome → ((u : SequenceType) → ruling ≡ has_type u → Keeps setting before u outcome)
-    → Keeps setting before (type_or_items ruling) outcome
+    → Keeps setting before (kind_ruled ruling) outcome
 keeps_ruled setting is before t outcome (has_type u) h k = k u refl
 keeps_ruled setting is before t outcome (has_none code part) h k = keeps_any_items setting is before t outcome h

@@ -19,7 +19,7 @@ use Rattle.gx_core.specs.Soundness.{Setting, context_of, Keeps}
 use Rattle.gx_core.proofs.InstanceLemmas.{instances_are_exact}
 use Rattle.gx_static.proofs.HonestValues.{included_belongs}
 use Rattle.gx_plan.specs.Plan.{PlanExpression, kind_carried, typed_expression, typed_parts}
-use Rattle.gx_rules.specs.Rules.{made_let, binder_of, Decided}
+use Rattle.gx_rules.specs.Rules.{made_let, plain_binder, Decided}
 use Rattle.gx_rule_laws.specs.KeepingRules.{IsRegular, RuleKeeps}
 use Rattle.gx_rule_laws.proofs.GuardLemmas.{met}
 use Rattle.gx_rule_laws.proofs.Renaming.{none_may_be_bound}
@@ -56,11 +56,11 @@ case_means setting case cases default branch branches t before wrong bindings sc
 
 pub decided_keeps : RuleKeeps Decided
 decided_keeps setting variables (At place outer carried (operators.Switch [] default) (a_part operand (a_part branch no_parts))) other types stands h situation =
-    let same : made_let setting.schemas place (binder_of default place) operand branch ≡ other = cc in
+    let same : made_let setting.schemas place (plain_binder default place) operand branch ≡ other = cc in
     ap (λ (d : PlanExpression). meaning (context_of setting) (typed_expression d) situation.bindings situation.forest) (sym same)
     ∙ default_means (context_of setting) default branch (meaning (context_of setting) (typed_expression operand) situation.bindings situation.forest) situation.bindings stands.regular.1.1.0
 decided_keeps setting variables (At place outer carried (operators.Switch (case ∷ cases) default) (a_part operand (a_part branch branches))) other types stands h situation =
-    let guard = met (is_included setting.schemas (kind_carried operand) case.kind) (made_let setting.schemas place (binder_of case.variable place) operand branch) other h in
+    let guard = met (is_included setting.schemas (kind_carried operand) case.kind) (made_let setting.schemas place (plain_binder case.variable place) operand branch) other h in
     let keeps : Keeps setting situation.forest (annotation_of (typed_expression operand)) (meaning (context_of setting) (typed_expression operand) situation.bindings situation.forest) =
     first_keeps setting (operators.Switch (case ∷ cases) default)
     (annotation_of (typed_expression operand) ∷ annotation_of (typed_expression branch) ∷ each_of annotation_of (typed_parts branches)) (typed_expression operand) types

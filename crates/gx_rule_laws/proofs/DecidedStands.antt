@@ -16,7 +16,7 @@ use Rattle.gx_core.specs.Soundness.{Setting, context_of, Keeps}
 use Rattle.gx_core.proofs.SoundQueries.{keeps_its_type}
 use Rattle.gx_plan.specs.Plan.{PlanExpression, kind_carried, typed_expression, typed_parts}
 use Rattle.gx_plan.specs.Fitting.{FitsAt}
-use Rattle.gx_rules.specs.Rules.{made_let, binder_of, Decided}
+use Rattle.gx_rules.specs.Rules.{made_let, plain_binder, Decided}
 use Rattle.gx_rule_laws.specs.QuietValues.{carried_types, plan_setting}
 use Rattle.gx_rule_laws.specs.KeepingSoundness.{StandsInPlan, RuleHandsOn}
 use Rattle.gx_rule_laws.proofs.GuardLemmas.{met}
@@ -34,9 +34,9 @@ branch_stands s variables known calls number e types h =
 
 pub decided_hands_on : RuleHandsOn Decided
 decided_hands_on s variables known calls (At place outer carried (operators.Switch [] default) (a_part operand (a_part branch no_parts))) other types stands h =
-    let same : made_let s place (binder_of default place) operand branch ≡ other = cc in
+    let same : made_let s place (plain_binder default place) operand branch ≡ other = cc in
     subst (λ (d : PlanExpression). StandsInPlan s variables known calls d types) same
-    (let_stands s variables known calls place (binder_of default place) operand branch types
+    (let_stands s variables known calls place (plain_binder default place) operand branch types
     (record {
       stands = record { schemas = stands.stands.schemas; regular = stands.stands.regular.1.0; sound = stands.stands.sound.1.0; well_bound = stands.stands.well_bound.1.0 };
       positions = stands.positions.1.0;
@@ -56,9 +56,9 @@ decided_hands_on s variables known calls (At place outer carried (operators.Swit
     (evaluations_after o (λ ys now. branch_evaluations s [] default 1 (d ∷ []) ys situation.bindings now))) given (stands.stands.well_bound.0 situation).1 in
     case_fits_let s variables left types default xs situation.bindings stands.none_carries stands.none_typed all.0.fits))
 decided_hands_on s variables known calls (At place outer carried (operators.Switch (case ∷ cases) default) (a_part operand (a_part branch branches))) other types stands h =
-    let guard = met (is_included s (kind_carried operand) case.kind) (made_let s place (binder_of case.variable place) operand branch) other h in
+    let guard = met (is_included s (kind_carried operand) case.kind) (made_let s place (plain_binder case.variable place) operand branch) other h in
     subst (λ (d : PlanExpression). StandsInPlan s variables known calls d types) guard.1
-    (let_stands s variables known calls place (binder_of case.variable place) operand branch types
+    (let_stands s variables known calls place (plain_binder case.variable place) operand branch types
     (record {
       stands = record { schemas = stands.stands.schemas; regular = stands.stands.regular.1.0; sound = stands.stands.sound.1.0; well_bound = stands.stands.well_bound.1.0 };
       positions = stands.positions.1.0;

@@ -21,7 +21,7 @@ use Rattle.gx_core.specs.PathLaws.{stepped_from_each, loop_of_steps, ordered}
 use Rattle.gx_core.proofs.StepLoops.{loops_of_steps, slashes_are_descendants}
 use Rattle.gx_plan.specs.Plan.{PlanExpression, typed_expression}
 use Rattle.gx_rules.specs.Guards.{is_own_role}
-use Rattle.gx_rules.specs.Rules.{RuleSetting, made, binds_alone, is_step_to_all_below, with_descendants, descending_from, descending, without_order, in_order}
+use Rattle.gx_rules.specs.Rules.{RuleSetting, made_operator, binds_alone, is_step_to_all_below, loop_over_descendants, descending_from, with_steps_below, without_order, ordered_operand}
 use Rattle.gx_rule_laws.proofs.GuardLemmas.{met}
 use Rattle.gx_rule_laws.proofs.Outcomes.{order_is, after_gives}
 
@@ -165,40 +165,40 @@ step_below context variable (At place outer carried (operators.Step axes.Descend
     ap (λ (n : ℕ). denoted context (operators.Step axes.DescendantOrSelf tests.Node n) []) (eqb-true number variable h)
 step_below context variable _ h = absurd (cc)
 
--- what `descending` gives
+-- what `with_steps_below` gives
 descended : (context : Context) (setting : RuleSetting) (place : Place) (asks : Test) (own : Bool) (operator : Operator) (source body : PlanExpression)
     (other : PlanExpression) → descending_from setting place asks own operator source body (binds_alone operator) ≡ Some other
     → SameBelow context asks (denoted context operator (means context source ∷ means context body ∷ [])) (means context other)
 descended context setting place asks own (operators.For binder zero) source body other h =
-    let guard = met (own && is_step_to_all_below binder.variable body) (with_descendants setting place asks (operators.For binder zero) source binder) other h in
+    let guard = met (own && is_step_to_all_below binder.variable body) (loop_over_descendants setting place asks (operators.For binder zero) source binder) other h in
     subst (λ (e : PlanExpression). SameBelow context asks (denoted context (operators.For binder zero) (means context source ∷ means context body ∷ [])) (means context e)) guard.1
     (subst (λ (d : Denotation). SameBelow context asks (denoted context (operators.For binder zero) (means context source ∷ d ∷ []))
     (loop_of_steps context binder axes.Descendant asks (means context source))) (sym (step_below context binder.variable body (and_parts own (is_step_to_all_below binder.variable body) guard.0).1))
     (loop_below context binder asks (means context source)))
 descended context setting place asks own (operators.Let binder) source body other h =
-    let guard = met (own && is_step_to_all_below binder.variable body) (with_descendants setting place asks (operators.Let binder) source binder) other h in
+    let guard = met (own && is_step_to_all_below binder.variable body) (loop_over_descendants setting place asks (operators.Let binder) source binder) other h in
     subst (λ (e : PlanExpression). SameBelow context asks (denoted context (operators.Let binder) (means context source ∷ means context body ∷ [])) (means context e)) guard.1
     (subst (λ (d : Denotation). SameBelow context asks (denoted context (operators.Let binder) (means context source ∷ d ∷ []))
     (let_of_step context binder axes.Descendant asks (means context source))) (sym (step_below context binder.variable body (and_parts own (is_step_to_all_below binder.variable body) guard.0).1))
     (let_below context binder asks (means context source)))
 descended context setting place asks own _ source body other h = absurd (cc)
 
-descends : (context : Context) (setting : RuleSetting) (asks : Test) (e other : PlanExpression) → descending setting asks e ≡ Some other
+descends : (context : Context) (setting : RuleSetting) (asks : Test) (e other : PlanExpression) → with_steps_below setting asks e ≡ Some other
     → SameBelow context asks (means context e) (means context other)
 descends context setting asks (At place outer carried operator (a_part source (a_part body no_parts))) other h =
     descended context setting place asks (is_own_role carried.role) operator source body other h
 descends context setting asks _ other h = absurd (cc)
 
 -- what is put in order
-pub ordered_so : (s : SchemaSet) (place : Place) (found : Option PlanExpression) (other : PlanExpression) → in_order s place found ≡ Some other
+pub ordered_so : (s : SchemaSet) (place : Place) (found : Option PlanExpression) (other : PlanExpression) → ordered_operand s place found ≡ Some other
     → (e : PlanExpression) × (found ≡ Some e) × ((context : Context) → means context other ≡ ordered context (means context e))
 ordered_so s place None other h = absurd (cc)
 ordered_so s place (Some e) other h =
-    let same : made s place operators.Order (one_part e) ≡ other = cc in (e, refl, λ context. sym (ap (means context) same))
+    let same : made_operator s place operators.Order (one_part e) ≡ other = cc in (e, refl, λ context. sym (ap (means context) same))
 
 -- a source, or one that is put in order
 pub below_source : (context : Context) (setting : RuleSetting) (asks : Test) (outer : Binder) (source e : PlanExpression)
-    → descending setting asks (without_order source) ≡ Some e → (bindings : Bindings) (forest : Forest)
+    → with_steps_below setting asks (without_order source) ≡ Some e → (bindings : Bindings) (forest : Forest)
     → ordered context (loop_of_steps context outer axes.Child asks (means context source)) bindings forest ≡ ordered context (means context e) bindings forest
 below_source context setting asks outer (At place o carried operators.Order (a_part d no_parts)) e h bindings forest =
     (descends context setting asks d e h).in_order outer bindings forest

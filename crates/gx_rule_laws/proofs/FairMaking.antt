@@ -24,7 +24,7 @@ use Rattle.gx_static.proofs.Families.{is_value_of}
 use Rattle.gx_plan.specs.declared.plan.Carried.{Carried}
 use Rattle.gx_plan.specs.Plan.{PlanExpression, kind_carried, typed_expression}
 use Rattle.gx_rules.specs.Guards.{is_own_role, is_in_join, are_compared_quietly, is_quiet, is_flat, is_sorted, is_named_in, are_keys_of_one_family}
-use Rattle.gx_rules.specs.Rules.{Rule, One, Sorted, Flat, Slashes, Single, Decided, Idle, Joins, applied, any_atomic_values, occurs_once, with_position, made_let, binder_of, without_order, slashes_over, join_by_loop, join_by_test, join_by_keys, joined, may_be_joined}
+use Rattle.gx_rules.specs.Rules.{RewritingRule, One, Sorted, Flat, Slashes, Single, Decided, Idle, Joins, rewritten_by, any_atomic_values, occurs_once, with_position, made_let, plain_binder, without_order, slashes_over, join_by_loop, join_by_test, join_by_keys, marked_loops, may_be_joined}
 use Rattle.gx_rule_laws.specs.KeepingSoundness.{StandsInPlan, plan_rule_setting}
 use Rattle.gx_rule_laws.specs.QuietValues.{carried_types, plan_setting, HasValueInPlace}
 use Rattle.gx_rule_laws.specs.FairJoins.{is_number_value, is_text_value, IsKeyOf, AreFairKeys, HasFairJoins}
@@ -94,7 +94,7 @@ module _ (s : SchemaSet) (variables : Types) (known : List FunctionSignature) (c
       let first_none : look_up first 0 ≡ None = none_typed_behind variables (outer.variable ∷ []) types stands.none_carries stands.none_typed in
       let second_none : look_up second 0 ≡ None = none_typed_behind variables (inner.variable ∷ []) first stands.none_carries first_none in
       let guard = met (may_be_joined s outer.variable inner.variable other_source left right)
-      (joined s (record { place = place; binder = outer; source = source }) (record { place = p1; binder = inner; source = other_source }) p2 p3 absent left right result) other h in
+      (marked_loops s (record { place = place; binder = outer; source = source }) (record { place = p1; binder = inner; source = other_source }) p2 p3 absent left right result) other h in
       let all = and_parts (is_quiet s other_source && (is_quiet s left && is_quiet s right))
       ((not (is_named_in other_source outer.variable) && (not (is_named_in right outer.variable) && not (is_named_in left inner.variable)))
       && are_keys_of_one_family s (kind_carried left) (kind_carried right)) guard.0 in
@@ -179,29 +179,29 @@ module _ (s : SchemaSet) (variables : Types) (known : List FunctionSignature) (c
       → (guard ≡ true) × (e ≡ other) → Fair other types
   operand_fair guard place outer carried e other types h met_so = subst (λ (d : PlanExpression). Fair d types) met_so.1 (record { fair = h.fair.1.0; compare = h.compare.1.0 })
 
-  one_fair : (e other : PlanExpression) (types : Types) → Fair e types → applied (plan_rule_setting s variables) One e ≡ Some other → Fair other types
+  one_fair : (e other : PlanExpression) (types : Types) → Fair e types → rewritten_by (plan_rule_setting s variables) One e ≡ Some other → Fair other types
   one_fair (At place outer carried operators.Order (a_part e no_parts)) other types h g =
       operand_fair (is_at_most_one (kind_carried e)) place outer carried e other types h (met (is_at_most_one (kind_carried e)) e other g)
   one_fair _ other types h g = absurd (cc)
 
-  sorted_fair : (e other : PlanExpression) (types : Types) → Fair e types → applied (plan_rule_setting s variables) Sorted e ≡ Some other → Fair other types
+  sorted_fair : (e other : PlanExpression) (types : Types) → Fair e types → rewritten_by (plan_rule_setting s variables) Sorted e ≡ Some other → Fair other types
   sorted_fair (At place outer carried operators.Order (a_part e no_parts)) other types h g =
       operand_fair (is_sorted e) place outer carried e other types h (met (is_sorted e) e other g)
   sorted_fair _ other types h g = absurd (cc)
 
-  flat_fair : (e other : PlanExpression) (types : Types) → Fair e types → applied (plan_rule_setting s variables) Flat e ≡ Some other → Fair other types
+  flat_fair : (e other : PlanExpression) (types : Types) → Fair e types → rewritten_by (plan_rule_setting s variables) Flat e ≡ Some other → Fair other types
   flat_fair (At place outer carried operators.Order (a_part e no_parts)) other types h g =
       operand_fair (is_flat e) place outer carried e other types h (met (is_flat e) e other g)
   flat_fair _ other types h g = absurd (cc)
 
-  idle_fair : (e other : PlanExpression) (types : Types) → Fair e types → applied (plan_rule_setting s variables) Idle e ≡ Some other → Fair other types
+  idle_fair : (e other : PlanExpression) (types : Types) → Fair e types → rewritten_by (plan_rule_setting s variables) Idle e ≡ Some other → Fair other types
   idle_fair (At place outer carried (operators.Call functions.Boolean) (a_part e no_parts)) other types h g =
       subst (λ (d : PlanExpression). Fair d types) (met (is_included s (kind_carried e) (atomic builtins.Boolean)) e other g).1 (record { fair = h.fair.1.0; compare = h.compare.1.0 })
   idle_fair (At place outer carried operators.DataOf (a_part e no_parts)) other types h g =
       subst (λ (d : PlanExpression). Fair d types) (met (is_included s (kind_carried e) any_atomic_values) e other g).1 (record { fair = h.fair.1.0; compare = h.compare.1.0 })
   idle_fair _ other types h g = absurd (cc)
 
-  slashes_fair : (e other : PlanExpression) (types : Types) → Fair e types → applied (plan_rule_setting s variables) Slashes e ≡ Some other → Fair other types
+  slashes_fair : (e other : PlanExpression) (types : Types) → Fair e types → rewritten_by (plan_rule_setting s variables) Slashes e ≡ Some other → Fair other types
   slashes_fair (At place outer carried operators.Order (a_part (At p o c (operators.For binder zero) (a_part source (a_part body no_parts))) no_parts)) other types h g =
       let over = given_if (is_own_role c.role) (slashes_over (plan_rule_setting s variables) place binder.variable source body) other g in
       let order = over_source s variables place binder.variable source body other over.1 in
@@ -211,33 +211,33 @@ module _ (s : SchemaSet) (variables : Types) (known : List FunctionSignature) (c
       (source_fair s variables known calls source types (record { fair = h.fair.1.0.1.0; compare = h.compare.1.0.1.0 })) order.1.is_found))
   slashes_fair _ other types h g = absurd (cc)
 
-  single_fair : (e other : PlanExpression) (types : Types) → Stands e types → Fair e types → applied (plan_rule_setting s variables) Single e ≡ Some other → Fair other types
+  single_fair : (e other : PlanExpression) (types : Types) → Stands e types → Fair e types → rewritten_by (plan_rule_setting s variables) Single e ≡ Some other → Fair other types
   single_fair (At place outer carried (operators.For binder position) (a_part source (a_part body no_parts))) other types stands h g =
       subst (λ (d : PlanExpression). Fair d types) (met (is_own_role carried.role && occurs_once (kind_carried source)) (made_let s place binder source (with_position s place position body)) other g).1
       (let_fair s variables known calls place binder source (with_position s place position body) types (record { fair = h.fair.1.0; compare = h.compare.1.0 })
       (body_fair s variables known calls place binder.variable position body types stands.stands.regular.0 (record { fair = h.fair.1.1.0; compare = h.compare.1.1.0 })))
   single_fair _ other types stands h g = absurd (cc)
 
-  decided_fair : (e other : PlanExpression) (types : Types) → Stands e types → Fair e types → applied (plan_rule_setting s variables) Decided e ≡ Some other → Fair other types
+  decided_fair : (e other : PlanExpression) (types : Types) → Stands e types → Fair e types → rewritten_by (plan_rule_setting s variables) Decided e ≡ Some other → Fair other types
   decided_fair (At place outer carried (operators.Switch [] default) (a_part operand (a_part branch no_parts))) other types stands h g =
-      let same : made_let s place (binder_of default place) operand branch ≡ other = cc in
+      let same : made_let s place (plain_binder default place) operand branch ≡ other = cc in
       subst (λ (d : PlanExpression). Fair d types) same
-      (let_fair s variables known calls place (binder_of default place) operand branch types (record { fair = h.fair.1.0; compare = h.compare.1.0 })
+      (let_fair s variables known calls place (plain_binder default place) operand branch types (record { fair = h.fair.1.0; compare = h.compare.1.0 })
       (branch_fair s variables known calls default branch types stands.none_carries (record { fair = h.fair.1.1.0; compare = h.compare.1.1.0 })))
   decided_fair (At place outer carried (operators.Switch (case ∷ cases) default) (a_part operand (a_part branch branches))) other types stands h g =
       subst (λ (d : PlanExpression). Fair d types)
-      (met (is_included s (kind_carried operand) case.kind) (made_let s place (binder_of case.variable place) operand branch) other g).1
-      (let_fair s variables known calls place (binder_of case.variable place) operand branch types (record { fair = h.fair.1.0; compare = h.compare.1.0 })
+      (met (is_included s (kind_carried operand) case.kind) (made_let s place (plain_binder case.variable place) operand branch) other g).1
+      (let_fair s variables known calls place (plain_binder case.variable place) operand branch types (record { fair = h.fair.1.0; compare = h.compare.1.0 })
       (branch_fair s variables known calls case.variable branch types stands.none_carries (record { fair = h.fair.1.1.0; compare = h.compare.1.1.0 })))
   decided_fair _ other types stands h g = absurd (cc)
 
-  joins_fair : (e other : PlanExpression) (types : Types) → Stands e types → Fair e types → applied (plan_rule_setting s variables) Joins e ≡ Some other → Fair other types
+  joins_fair : (e other : PlanExpression) (types : Types) → Stands e types → Fair e types → rewritten_by (plan_rule_setting s variables) Joins e ≡ Some other → Fair other types
   joins_fair (At place o c (operators.For binder zero) (a_part source (a_part body no_parts))) other types stands h g =
       by_loop place o c binder source body other types stands h
       (given_if (is_own_role c.role) (join_by_loop s (record { place = place; binder = binder; source = source }) body) other g).1
   joins_fair _ other types stands h g = absurd (cc)
 
-  pub rule_fair : (rule : Rule) (e other : PlanExpression) (types : Types) → Stands e types → Fair e types → applied (plan_rule_setting s variables) rule e ≡ Some other → Fair other types
+  pub rule_fair : (rule : RewritingRule) (e other : PlanExpression) (types : Types) → Stands e types → Fair e types → rewritten_by (plan_rule_setting s variables) rule e ≡ Some other → Fair other types
   rule_fair One e other types stands h g = one_fair e other types h g
   rule_fair Sorted e other types stands h g = sorted_fair e other types h g
   rule_fair Flat e other types stands h g = flat_fair e other types h g

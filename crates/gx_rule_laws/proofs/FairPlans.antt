@@ -22,7 +22,7 @@ use Rattle.gx_plan.specs.Compiling.{compiled_operator, compiled, compiled_parts,
 use Rattle.gx_plan.specs.Plan.{PlanExpression, typed_expression, typed_declaration, typed_query}
 use Rattle.gx_plan.specs.FullSoundness.{body_types, IsFullySound, DeclarationsAreFullySound}
 use Rattle.gx_rules.specs.Guards.{is_in_join}
-use Rattle.gx_rules.specs.Normal.{Reaches}
+use Rattle.gx_rules.specs.Normal.{PlanReaches}
 use Rattle.gx_rule_laws.specs.KeepingRules.{HasOneBoolean}
 use Rattle.gx_rule_laws.specs.KeepingSoundness.{plan_rule_setting}
 use Rattle.gx_rule_laws.specs.QuietValues.{carried_binders, plan_setting, is_comparison_of_join, JoinsCompareInPlace, JoinsInPartsCompareInPlace}
@@ -104,7 +104,7 @@ compiled_plans_have_no_join query = record { declarations = declarations_without
 
 module _ (s : SchemaSet) (is : IsSchemaSet s) (variables : Types) (none : look_up variables 0 ≡ None) (one : HasOneBoolean s) where
   becomes_fair : (e other : PlanExpression) (types : Types) → IsFullySound s (carried_binders variables) (typed_expression e) types → IsOrderly variables e types
-      → HasNoJoin e → Reaches (plan_rule_setting s variables) e other → BecomesFair s variables e other types
+      → HasNoJoin e → PlanReaches (plan_rule_setting s variables) e other → BecomesFair s variables e other types
   becomes_fair e other types sound orderly no_join reaches known calls all =
       rewriting_keeps_joins_fair s variables known calls e other types one (record {
         stands = record { schemas = is; regular = orderly.regular; sound = sound.sound known calls all; well_bound = sound.well_bound known calls all };

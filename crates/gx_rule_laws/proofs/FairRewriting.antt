@@ -1,4 +1,4 @@
--- Joins stay fair where rules are applied inside an expression, any number of times.
+-- Joins stay fair where rules are rewritten_by inside an expression, any number of times.
 use Rattle.std.proofs.Common.{◌≡◌, inl, inr, ℕ, zero, suc, None, List, [], ◌∷◌, ◌++◌, refl, sym, ◌∙◌, ap, subst}
 use Rattle.gx_base.specs.declared.place.Place.{Place}
 use Rattle.gx_types.specs.SchemaSet.{SchemaSet}

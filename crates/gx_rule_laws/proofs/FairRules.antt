@@ -28,7 +28,7 @@ use Rattle.gx_static.proofs.ItemLemmas.{EachItem, Meets, items_meet}
 use Rattle.gx_plan.specs.declared.plan.Carried.{Carried}
 use Rattle.gx_plan.specs.Plan.{PlanExpression}
 use Rattle.gx_rules.specs.Guards.{is_own_role, compare_quietly, are_compared_quietly}
-use Rattle.gx_rules.specs.Rules.{first_position, with_position, made, made_let, made_step, binder_of, binds_alone, is_step_to_all_below, with_descendants, descending_from, descending, without_order}
+use Rattle.gx_rules.specs.Rules.{first_position, with_position, made_operator, made_let, made_step, plain_binder, binds_alone, is_step_to_all_below, loop_over_descendants, descending_from, with_steps_below, without_order}
 use Rattle.gx_rule_laws.specs.KeepingSoundness.{StandsInPlan, plan_rule_setting}
 use Rattle.gx_rule_laws.specs.QuietValues.{carried_types, plan_setting}
 use Rattle.gx_rule_laws.specs.FairJoins.{is_number_value, is_text_value, is_atom_so, ValuesPass, HasFairJoins}
@@ -143,7 +143,7 @@ module _ (s : SchemaSet) (variables : Types) (known : List FunctionSignature) (c
   }
 
   for_fair : (place : Place) (binder : Binder) (source body : PlanExpression) (types : Types) → Fair source types → Fair body (carried_types variables (binder.variable ∷ []) ++ types)
-      → Fair (made s place (operators.For binder zero) (two_parts source body)) types
+      → Fair (made_operator s place (operators.For binder zero) (two_parts source body)) types
   for_fair place binder source body types first second = record {
     fair = ((λ marked. absurd (cc)), (first.fair, (second.fair, tt)));
     compare = ((λ marked. absurd (cc)), (first.compare, (second.compare, tt)));
@@ -155,7 +155,7 @@ module _ (s : SchemaSet) (variables : Types) (known : List FunctionSignature) (c
   position_fair : (place : Place) (types : Types) → Fair (first_position place) types
   position_fair place types = record { fair = (tt, tt); compare = ((λ marked. absurd (cc)), tt) }
 
-  pub order_fair : (place : Place) (e : PlanExpression) (types : Types) → Fair e types → Fair (made s place operators.Order (one_part e)) types
+  pub order_fair : (place : Place) (e : PlanExpression) (types : Types) → Fair e types → Fair (made_operator s place operators.Order (one_part e)) types
   order_fair place e types h = record { fair = (tt, (h.fair, tt)); compare = ((λ marked. absurd (cc)), (h.compare, tt)) }
 
   -- ---- what rules give
@@ -164,7 +164,7 @@ module _ (s : SchemaSet) (variables : Types) (known : List FunctionSignature) (c
       → Fair body (carried_types variables (variable ∷ position_numbers position) ++ types) → Fair (with_position s place position body) (carried_types variables (variable ∷ []) ++ types)
   body_fair place variable zero body types differ h = h
   body_fair place variable (suc n) body types differ h =
-      let_fair place (binder_of (suc n) place) (first_position place) body (carried_types variables (variable ∷ []) ++ types)
+      let_fair place (plain_binder (suc n) place) (first_position place) body (carried_types variables (variable ∷ []) ++ types)
       (position_fair place (carried_types variables (variable ∷ []) ++ types))
       (joins_there setting body (carried_types variables (variable ∷ suc n ∷ []) ++ types) (carried_types variables (suc n ∷ []) ++ (carried_types variables (variable ∷ []) ++ types))
       (swapped variable (suc n) (λ e. differ (sym e)) (look_up variables variable) (look_up variables (suc n)) types) h)
@@ -178,17 +178,17 @@ module _ (s : SchemaSet) (variables : Types) (known : List FunctionSignature) (c
       → descending_from (plan_rule_setting s variables) place asks (is_own_role carried.role) operator source body (binds_alone operator) ≡ Some other → Fair other types
   descended_fair place outer carried asks (operators.For binder zero) source body other types h g =
       subst (λ (d : PlanExpression). Fair d types) (met (is_own_role carried.role && is_step_to_all_below binder.variable body)
-      (with_descendants (plan_rule_setting s variables) place asks (operators.For binder zero) source binder) other g).1
+      (loop_over_descendants (plan_rule_setting s variables) place asks (operators.For binder zero) source binder) other g).1
       (for_fair place binder source (made_step (plan_rule_setting s variables) place asks binder.variable) types
       (record { fair = h.fair.1.0; compare = h.compare.1.0 }) (step_fair place asks binder.variable (carried_types variables (binder.variable ∷ []) ++ types)))
   descended_fair place outer carried asks (operators.Let binder) source body other types h g =
       subst (λ (d : PlanExpression). Fair d types) (met (is_own_role carried.role && is_step_to_all_below binder.variable body)
-      (with_descendants (plan_rule_setting s variables) place asks (operators.Let binder) source binder) other g).1
+      (loop_over_descendants (plan_rule_setting s variables) place asks (operators.Let binder) source binder) other g).1
       (let_fair place binder source (made_step (plan_rule_setting s variables) place asks binder.variable) types
       (record { fair = h.fair.1.0; compare = h.compare.1.0 }) (step_fair place asks binder.variable (carried_types variables (binder.variable ∷ []) ++ types)))
   descended_fair place outer carried asks _ source body other types h g = absurd (cc)
 
-  pub descends_fair : (asks : Test) (e other : PlanExpression) (types : Types) → Fair e types → descending (plan_rule_setting s variables) asks e ≡ Some other → Fair other types
+  pub descends_fair : (asks : Test) (e other : PlanExpression) (types : Types) → Fair e types → with_steps_below (plan_rule_setting s variables) asks e ≡ Some other → Fair other types
   descends_fair asks (At place outer carried operator (a_part source (a_part body no_parts))) other types h g =
       descended_fair place outer carried asks operator source body other types h g
   descends_fair asks _ other types h g = absurd (cc)

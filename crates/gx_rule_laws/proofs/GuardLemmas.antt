@@ -1,9 +1,9 @@
 -- What stands in the place of an expression where a guard is met.
 use Rattle.std.proofs.Common.{◌≡◌, Bool, true, false, Option, None, Some, refl, if◌then◌else◌}
 use Rattle.gx_plan.specs.Plan.{PlanExpression}
-use Rattle.gx_rules.specs.Rules.{where_met}
+use Rattle.gx_rules.specs.Rules.{if_guarded}
 
-pub met : (guard : Bool) (e other : PlanExpression) → where_met guard e ≡ Some other → (guard ≡ true) × (e ≡ other)
+pub met : (guard : Bool) (e other : PlanExpression) → if_guarded guard e ≡ Some other → (guard ≡ true) × (e ≡ other)
 met true e other h = (refl, cc)
 met false e other h = absurd (cc)
 

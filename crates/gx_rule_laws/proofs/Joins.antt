@@ -9,7 +9,7 @@ use Rattle.gx_core.specs.Meaning.{Context, denoted, meaning}
 use Rattle.gx_core.specs.Soundness.{context_of}
 use Rattle.gx_plan.specs.Plan.{PlanExpression, typed_expression}
 use Rattle.gx_rules.specs.Guards.{is_own_role}
-use Rattle.gx_rules.specs.Rules.{Loop, join, join_by_loop, join_by_test, join_by_keys, joined, may_be_joined, Joins}
+use Rattle.gx_rules.specs.Rules.{Loop, join, join_by_loop, join_by_test, join_by_keys, marked_loops, may_be_joined, Joins}
 use Rattle.gx_rule_laws.specs.KeepingRules.{RuleKeeps}
 use Rattle.gx_rule_laws.proofs.GuardLemmas.{met, given_if}
 
@@ -21,7 +21,7 @@ by_keys : (context : Context) (s : SchemaSet) (outer inner : Loop) (test absent 
     ∷ denoted context operators.Empty [] ∷ []) ∷ []) ∷ [])
 by_keys context s outer inner test absent result (At place o c (operators.Binary binary.AnyEq) (a_part left (a_part right no_parts))) other h =
     let both = met (may_be_joined s outer.binder.variable inner.binder.variable inner.source left right)
-    (joined s outer inner test place absent left right result) other h in
+    (marked_loops s outer inner test place absent left right result) other h in
     sym (ap (λ (e : PlanExpression). meaning context (typed_expression e)) both.1)
 by_keys context s outer inner test absent result _ other h = absurd (cc)
 

@@ -13,7 +13,7 @@ use Rattle.gx_plan.specs.declared.plan.Role.TheVariants as roles
 use Rattle.gx_plan.specs.declared.plan.Carried.{Carried}
 use Rattle.gx_plan.specs.Plan.{PlanExpression, typed_parts}
 use Rattle.gx_rules.specs.Guards.{is_own_role}
-use Rattle.gx_rules.specs.Rules.{made_as, join_by_loop, join_by_test, join_by_keys, joined, may_be_joined, Joins}
+use Rattle.gx_rules.specs.Rules.{made_as, join_by_loop, join_by_test, join_by_keys, marked_loops, may_be_joined, Joins}
 use Rattle.gx_rule_laws.specs.QuietValues.{carried_types}
 use Rattle.gx_rule_laws.specs.KeepingSoundness.{StandsInPlan, RuleHandsOn}
 use Rattle.gx_rule_laws.proofs.GuardLemmas.{met, given_if}
@@ -40,7 +40,7 @@ module _ (s : SchemaSet) (variables : Types) (known : List FunctionSignature) (c
       let first_none : look_up first 0 ≡ None = none_typed_behind variables (outer.variable ∷ []) types stands.none_carries stands.none_typed in
       let second_none : look_up second 0 ≡ None = none_typed_behind variables (inner.variable ∷ []) first stands.none_carries first_none in
       let guard = met (may_be_joined s outer.variable inner.variable other_source left right)
-      (joined s (record { place = place; binder = outer; source = source }) (record { place = p1; binder = inner; source = other_source }) p2 p3 absent left right result) other h in
+      (marked_loops s (record { place = place; binder = outer; source = source }) (record { place = p1; binder = inner; source = other_source }) p2 p3 absent left right result) other h in
       let empty : PlanExpression = At absent ao ac operators.Empty no_parts in
       let compared : PlanExpression = At p3 o3 c3 (operators.Binary binary.AnyEq) (two_parts left right) in
       let test : PlanExpression = At p2 o2 c2 operators.If (three_parts compared result empty) in

@@ -22,7 +22,7 @@ use Rattle.gx_static.specs.Rule.{has_type, order_rule}
 use Rattle.gx_static.proofs.Orders.{order_keeps}
 use Rattle.gx_plan.specs.Plan.{PlanExpression, kind_carried, typed_expression}
 use Rattle.gx_plan.specs.Fitting.{FitsAt}
-use Rattle.gx_rules.specs.Rules.{made}
+use Rattle.gx_rules.specs.Rules.{made_operator}
 use Rattle.gx_rule_laws.specs.QuietValues.{plan_setting}
 use Rattle.gx_rule_laws.specs.KeepingSoundness.{StandsInPlan}
 use Rattle.gx_rule_laws.proofs.AnyItems.{keeps_ruled}
@@ -45,7 +45,7 @@ module _ (s : SchemaSet) (variables : Types) (known : List FunctionSignature) (c
 
   pub order_stands : (place : Place) (e : PlanExpression) (types : Types) (t : SequenceType) → StandsInPlan s variables known calls e types
       → ((situation : Situation setting types) → Keeps setting situation.forest t (denoted context operators.Order (meaning context (typed_expression e) ∷ []) situation.bindings situation.forest))
-      → StandsInPlan s variables known calls (made s place operators.Order (one_part e)) types
+      → StandsInPlan s variables known calls (made_operator s place operators.Order (one_part e)) types
   order_stands place e types t e_stands keeps = record {
     stands = record {
       schemas = e_stands.stands.schemas;
@@ -80,7 +80,7 @@ module _ (s : SchemaSet) (variables : Types) (known : List FunctionSignature) (c
           (order_keeps s e_stands.stands.schemas.grounded (kind_carried e ∷ []) u left (xs ∷ []) is_ruled honest (belongs, tt)))
 
       kept : (situation : Situation setting types)
-          → Keeps setting situation.forest (kind_carried (made s place operators.Order (one_part e)))
+          → Keeps setting situation.forest (kind_carried (made_operator s place operators.Order (one_part e)))
           (denoted context operators.Order (meaning context (typed_expression e) ∷ []) situation.bindings situation.forest)
       kept situation =
           let outcome : Outcome Items = denoted context operators.Order (meaning context (typed_expression e) ∷ []) situation.bindings situation.forest in

@@ -22,8 +22,8 @@ use Rattle.gx_plan.specs.Plan.{PlanExpression, typed_expression, typed_parts}
 use Rattle.gx_plan.specs.Fitting.{FitsAt, BindsWell, IsWellBound, PartsAreWellBound}
 use Rattle.gx_plan.specs.SameMeaning.{PartsComeToTheSameFrom}
 use Rattle.gx_plan.proofs.ReplacingParts.{well_bound_parts_may_be_replaced}
-use Rattle.gx_rules.specs.Rules.{Rule, One, Sorted, Flat, Slashes, Single, Decided, Idle, Joins}
-use Rattle.gx_rules.specs.Normal.{StepsTo, PartStepsTo, ReachesIn, Reaches}
+use Rattle.gx_rules.specs.Rules.{RewritingRule, One, Sorted, Flat, Slashes, Single, Decided, Idle, Joins}
+use Rattle.gx_rules.specs.Normal.{StepsTo, PartStepsTo, ReachesIn, PlanReaches}
 use Rattle.gx_rule_laws.specs.KeepingRules.{AreRegular, KeepsWhereApplied, HasOneBoolean}
 use Rattle.gx_rule_laws.specs.QuietValues.{with_carried, carried_types, plan_setting}
 use Rattle.gx_rule_laws.specs.KeepingSoundness.{PartsCountByIntegers, StandsInPlan, plan_rule_setting, RuleHandsOn, IsRewrittenWell}
@@ -39,7 +39,7 @@ use Rattle.gx_rule_laws.proofs.ReplacedParts.{all_so, same_evaluations}
 
 -- ---- all rules keep
 
-all_keep : (setting : Setting) (variables : Types) → HasOneBoolean setting.schemas → (rule : Rule) → KeepsWhereApplied setting variables rule
+all_keep : (setting : Setting) (variables : Types) → HasOneBoolean setting.schemas → (rule : RewritingRule) → KeepsWhereApplied setting variables rule
 all_keep setting variables one One = one_keeps setting variables
 all_keep setting variables one Sorted = sorted_keeps setting variables
 all_keep setting variables one Flat = flat_keeps setting variables
@@ -95,7 +95,7 @@ none_typed_behind variables (number ∷ numbers) types v t =
     by_carried n (Some u) e rest = by_number n u (nat_eq n 0) refl e rest
 
 module _ (s : SchemaSet) (variables : Types) (known : List FunctionSignature) (calls : CallOutcomes) (one : HasOneBoolean s)
-    (hands_on : (rule : Rule) → RuleHandsOn rule) where
+    (hands_on : (rule : RewritingRule) → RuleHandsOn rule) where
   abbrev setting : Setting
   setting = plan_setting s variables known calls
 
@@ -257,8 +257,8 @@ module _ (s : SchemaSet) (variables : Types) (known : List FunctionSignature) (c
       let others = reached_keep n next other types first.stands rest in
       record { stands = others.stands; same = λ situation. others.same situation ∙ first.same situation }
 
-pub rewritten_well : ((rule : Rule) → RuleHandsOn rule) → (s : SchemaSet) (variables : Types) (known : List FunctionSignature) (calls : CallOutcomes)
-    (e other : PlanExpression) (types : Types) → HasOneBoolean s → StandsInPlan s variables known calls e types → Reaches (plan_rule_setting s variables) e other
+pub rewritten_well : ((rule : RewritingRule) → RuleHandsOn rule) → (s : SchemaSet) (variables : Types) (known : List FunctionSignature) (calls : CallOutcomes)
+    (e other : PlanExpression) (types : Types) → HasOneBoolean s → StandsInPlan s variables known calls e types → PlanReaches (plan_rule_setting s variables) e other
     → IsRewrittenWell s variables known calls e other types
 rewritten_well hands_on s variables known calls e other types one stands reaches =
     reached_keep s variables known calls one hands_on reaches.applications e other types stands reaches.reached

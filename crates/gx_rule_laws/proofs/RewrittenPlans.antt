@@ -16,7 +16,7 @@ use Rattle.gx_plan.specs.SameQueries.{AreSameDeclarations}
 use Rattle.gx_plan.proofs.SameOutcomes.{same_queries_have_the_outcome}
 use Rattle.gx_plan.proofs.TypedPlans.{plans_mean_their_typed_core, plans_have_the_outcome_of_their_typed_core}
 use Rattle.gx_rules.specs.Rules.{RuleSetting}
-use Rattle.gx_rules.specs.Normal.{StepsTo, ReachesIn, Reaches, DeclarationStepsTo, DeclarationsStepTo, QueryStepsTo, with_body}
+use Rattle.gx_rules.specs.Normal.{StepsTo, ReachesIn, PlanReaches, DeclarationStepsTo, DeclarationsStepTo, QueryStepsTo, function_over}
 use Rattle.gx_rule_laws.specs.KeepingRules.{HasOneBoolean}
 use Rattle.gx_rule_laws.specs.QuietValues.{carried_binders, plan_setting}
 use Rattle.gx_rule_laws.specs.KeepingSoundness.{plan_rule_setting}
@@ -25,17 +25,17 @@ use Rattle.gx_rule_laws.proofs.AllRules.{rewriting_keeps}
 
 -- ---- expressions of two plans, each reached from its counterpart
 
-nothing_done : (setting : RuleSetting) (e : PlanExpression) → Reaches setting e e
+nothing_done : (setting : RuleSetting) (e : PlanExpression) → PlanReaches setting e e
 nothing_done setting e = record { applications = zero; reached = refl }
 
-done_first : (setting : RuleSetting) (e next other : PlanExpression) → StepsTo setting e next → Reaches setting next other → Reaches setting e other
+done_first : (setting : RuleSetting) (e next other : PlanExpression) → StepsTo setting e next → PlanReaches setting next other → PlanReaches setting e other
 done_first setting e next other steps reaches = record { applications = suc reaches.applications; reached = (next, steps, reaches.reached) }
 
 abbrev pub ReachesDeclaration : RuleSetting → Declaration Carried → Declaration Carried → Type 0
-ReachesDeclaration setting (Global name binder (Some value)) (Global other_name other_binder (Some other)) = (other_binder ≡ binder) × Reaches setting value other
+ReachesDeclaration setting (Global name binder (Some value)) (Global other_name other_binder (Some other)) = (other_binder ≡ binder) × PlanReaches setting value other
 ReachesDeclaration setting (Global name binder None) (Global other_name other_binder None) = other_binder ≡ binder
 ReachesDeclaration setting (Function function) (Function other) =
-    (other.parameters ≡ function.parameters) × ((other.result ≡ function.result) × Reaches setting function.body other.body)
+    (other.parameters ≡ function.parameters) × ((other.result ≡ function.result) × PlanReaches setting function.body other.body)
 ReachesDeclaration setting _ _ = ⊥
 
 abbrev pub ReachesDeclarations : RuleSetting → List (Declaration Carried) → List (Declaration Carried) → Type 0
@@ -65,7 +65,7 @@ declaration_first setting (Global name binder None) next other steps reaches = a
 declaration_first setting (Function function) next other (e, is, steps) reaches =
     behind other (subst (λ (n : Declaration Carried). ReachesDeclaration setting n other) is reaches)
   where
-    behind : (o : Declaration Carried) → ReachesDeclaration setting (Function (with_body function e)) o → ReachesDeclaration setting (Function function) o
+    behind : (o : Declaration Carried) → ReachesDeclaration setting (Function (function_over function e)) o → ReachesDeclaration setting (Function function) o
     behind (Function f) r = (r.0, (r.1.0, done_first setting function.body e f.body steps r.1.1))
     behind (Global other_name other_binder None) r = absurd r
     behind (Global other_name other_binder (Some v)) r = absurd r
@@ -86,12 +86,12 @@ declarations_first setting (d ∷ ds) next (o ∷ os) (inr (es, is, steps)) reac
 
 pub record ReachesParts (setting : RuleSetting) (plan other : PlanQuery) : Type 0 where
   pub declarations : ReachesDeclarations setting plan.declarations other.declarations
-  pub body : Reaches setting plan.body other.body
+  pub body : PlanReaches setting plan.body other.body
 
 parts_first : (setting : RuleSetting) (plan next other : PlanQuery) → QueryStepsTo setting plan next → ReachesParts setting next other → ReachesParts setting plan other
 parts_first setting plan next other (inl (steps, same)) reaches = record {
   declarations = declarations_first setting plan.declarations next.declarations other.declarations steps reaches.declarations;
-  body = subst (λ (e : PlanExpression). Reaches setting e other.body) same reaches.body;
+  body = subst (λ (e : PlanExpression). PlanReaches setting e other.body) same reaches.body;
 }
 parts_first setting plan next other (inr (same, steps)) reaches = record {
   declarations = subst (λ (ds : List (Declaration Carried)). ReachesDeclarations setting ds other.declarations) same reaches.declarations;
@@ -108,7 +108,7 @@ parts_reached setting (suc n) plan other (next, steps, rest) = parts_first setti
 
 module _ (s : SchemaSet) (is : IsSchemaSet s) (variables : Types) (none : look_up variables 0 ≡ None) (one : HasOneBoolean s) where
   same_expression : (e other : PlanExpression) (types : Types) → IsFullySound s (carried_binders variables) (typed_expression e) types → IsOrderly variables e types
-      → Reaches (plan_rule_setting s variables) e other → IsSameExpression s other (typed_expression e) types
+      → PlanReaches (plan_rule_setting s variables) e other → IsSameExpression s other (typed_expression e) types
   same_expression e other types sound orderly reaches known calls all situation =
       let setting : Setting = plan_setting s variables known calls in
       plans_mean_their_typed_core (context_of setting) other situation.bindings situation.forest

@@ -27,7 +27,7 @@ use Rattle.gx_static.proofs.Singles.{one_atom_belongs}
 use Rattle.gx_plan.specs.Plan.{PlanExpression, kind_carried, typed_expression}
 use Rattle.gx_plan.specs.Fitting.{FitsAt}
 use Rattle.gx_rules.specs.Guards.{is_own_role}
-use Rattle.gx_rules.specs.Rules.{occurs_once, first_position, with_position, made_let, binder_of, Single}
+use Rattle.gx_rules.specs.Rules.{occurs_once, first_position, with_position, made_let, plain_binder, Single}
 use Rattle.gx_rule_laws.specs.QuietValues.{with_carried, carried_types, plan_setting}
 use Rattle.gx_rule_laws.specs.KeepingSoundness.{StandsInPlan, RuleHandsOn}
 use Rattle.gx_rule_laws.proofs.GuardLemmas.{met}
@@ -103,7 +103,7 @@ module _ (s : SchemaSet) (variables : Types) (known : List FunctionSignature) (c
 
   -- the value of a position has its type
   position_fits : (place : Place) (number : ℕ) (types : Types) → look_up variables number ≡ Some (atomic Integer)
-      → ValueFits s variables known calls (binder_of number place) (first_position place) types
+      → ValueFits s variables known calls (plain_binder number place) (first_position place) types
   position_fits place number types carried situation xs left given =
       let value : atom (integer_atom (pos 1)) ∷ [] ≡ xs = cc in
       let there : situation.forest ≡ left = cc in
@@ -111,7 +111,7 @@ module _ (s : SchemaSet) (variables : Types) (known : List FunctionSignature) (c
       (sym (carried_so number (look_up variables number) (atomic Integer) [] carried))
       (subst (λ (ys : Items). Fits s left ((number, atomic Integer) ∷ types) ((number, ys) ∷ situation.bindings)) value
       (subst (λ (f : Forest). Fits s f ((number, atomic Integer) ∷ types) ((number, atom (integer_atom (pos 1)) ∷ []) ∷ situation.bindings)) there
-      (binding_fits setting (binder_of number place) (atomic Integer) (atom (integer_atom (pos 1)) ∷ []) types situation.bindings situation.forest situation.fits
+      (binding_fits setting (plain_binder number place) (atomic Integer) (atom (integer_atom (pos 1)) ∷ []) types situation.bindings situation.forest situation.fits
       (one_belongs s situation.forest))))
 
   -- the body, with the position of the one item
@@ -145,7 +145,7 @@ module _ (s : SchemaSet) (variables : Types) (known : List FunctionSignature) (c
         none_carries = h.none_carries;
         none_typed = inner_none;
       } in
-      let_stands s variables known calls place (binder_of (suc n) place) (first_position place) body inner here body_inside
+      let_stands s variables known calls place (plain_binder (suc n) place) (first_position place) body inner here body_inside
       (position_fits place (suc n) inner (counts (λ e. no_zero e)))
     where
       no_zero : suc n ≡ 0 → ⊥

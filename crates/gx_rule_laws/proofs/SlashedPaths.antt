@@ -12,7 +12,7 @@ use Rattle.gx_core.specs.PathLaws.{ordered}
 use Rattle.gx_core.specs.Soundness.{context_of}
 use Rattle.gx_plan.specs.Plan.{PlanExpression}
 use Rattle.gx_rules.specs.Guards.{is_own_role}
-use Rattle.gx_rules.specs.Rules.{RuleSetting, descending, without_order, in_order, slashes_over, Slashes}
+use Rattle.gx_rules.specs.Rules.{RuleSetting, with_steps_below, without_order, ordered_operand, slashes_over, Slashes}
 use Rattle.gx_rule_laws.specs.KeepingRules.{RuleKeeps, rule_setting_of}
 use Rattle.gx_rule_laws.proofs.GuardLemmas.{given_if}
 use Rattle.gx_rule_laws.proofs.Descending.{means, below_source, ordered_so}
@@ -23,8 +23,8 @@ over_source : (context : Context) (setting : RuleSetting) (place : Place) (binde
     → means context other bindings forest
     ≡ ordered context (denoted context (operators.For binder 0) (means context source ∷ means context body ∷ [])) bindings forest
 over_source context setting place binder source (At p o c (operators.Step axes.Child asks number) no_parts) other h bindings forest =
-    let guard = given_if (nat_eq number binder.variable) (in_order setting.schemas place (descending setting asks (without_order source))) other h in
-    let made = ordered_so setting.schemas place (descending setting asks (without_order source)) other guard.1 in
+    let guard = given_if (nat_eq number binder.variable) (ordered_operand setting.schemas place (with_steps_below setting asks (without_order source))) other h in
+    let made = ordered_so setting.schemas place (with_steps_below setting asks (without_order source)) other guard.1 in
     ap (λ (d : Denotation). d bindings forest) (made.2 context)
     ∙ sym (below_source context setting asks binder source made.0 made.1 bindings forest)
     ∙ ap (λ (n : ℕ). ordered context (denoted context (operators.For binder 0) (means context source ∷ denoted context (operators.Step axes.Child asks n) [] ∷ [])) bindings forest)

@@ -28,7 +28,7 @@ use Rattle.gx_plan.specs.declared.plan.Carried.{Carried}
 use Rattle.gx_plan.specs.Plan.{PlanExpression, typed_expression, typed_parts}
 use Rattle.gx_plan.specs.Fitting.{FitsAt, BindsWell}
 use Rattle.gx_rules.specs.Guards.{is_own_role}
-use Rattle.gx_rules.specs.Rules.{made, made_step, binds_alone, is_step_to_all_below, with_descendants, descending_from, descending, without_order, in_order, slashes_over, Slashes}
+use Rattle.gx_rules.specs.Rules.{made_operator, made_step, binds_alone, is_step_to_all_below, loop_over_descendants, descending_from, with_steps_below, without_order, ordered_operand, slashes_over, Slashes}
 use Rattle.gx_rule_laws.specs.QuietValues.{with_carried, carried_types, plan_setting}
 use Rattle.gx_rule_laws.specs.KeepingSoundness.{StandsInPlan, plan_rule_setting, RuleHandsOn}
 use Rattle.gx_rule_laws.proofs.GuardLemmas.{met, given_if}
@@ -149,14 +149,14 @@ module _ (s : SchemaSet) (variables : Types) (known : List FunctionSignature) (c
       by_outcome (raises code) h = tt
       by_outcome wrong h = tt
 
-  -- what `descending` gives
+  -- what `with_steps_below` gives
   descended_stands : (place outer : Place) (carried : Carried) (asks : Test) (operator : Operator) (source body other : PlanExpression) (types : Types)
       → StandsInPlan s variables known calls (At place outer carried operator (a_part source (a_part body no_parts))) types
       → descending_from (plan_rule_setting s variables) place asks (is_own_role carried.role) operator source body (binds_alone operator) ≡ Some other
       → StandsInPlan s variables known calls other types
   descended_stands place outer carried asks (operators.For binder zero) source body other types stands h =
       let guard = met (is_own_role carried.role && is_step_to_all_below binder.variable body)
-      (with_descendants (plan_rule_setting s variables) place asks (operators.For binder zero) source binder) other h in
+      (loop_over_descendants (plan_rule_setting s variables) place asks (operators.For binder zero) source binder) other h in
       let below = (and_parts (is_own_role carried.role) (is_step_to_all_below binder.variable body) guard.0).1 in
       subst (λ (d : PlanExpression). StandsInPlan s variables known calls d types) guard.1
       (for_stands s variables known calls roles.Own place binder source (made_step (plan_rule_setting s variables) place asks binder.variable) types stands.stands.regular.0
@@ -175,7 +175,7 @@ module _ (s : SchemaSet) (variables : Types) (known : List FunctionSignature) (c
       (loop_binds place asks binder source body types below stands.stands.well_bound.0))
   descended_stands place outer carried asks (operators.Let binder) source body other types stands h =
       let guard = met (is_own_role carried.role && is_step_to_all_below binder.variable body)
-      (with_descendants (plan_rule_setting s variables) place asks (operators.Let binder) source binder) other h in
+      (loop_over_descendants (plan_rule_setting s variables) place asks (operators.Let binder) source binder) other h in
       let below = (and_parts (is_own_role carried.role) (is_step_to_all_below binder.variable body) guard.0).1 in
       subst (λ (d : PlanExpression). StandsInPlan s variables known calls d types) guard.1
       (let_stands s variables known calls place binder source (made_step (plan_rule_setting s variables) place asks binder.variable) types
@@ -197,7 +197,7 @@ module _ (s : SchemaSet) (variables : Types) (known : List FunctionSignature) (c
   descended_stands place outer carried asks _ source body other types stands h = absurd (cc)
 
   descends_stand : (asks : Test) (e other : PlanExpression) (types : Types) → StandsInPlan s variables known calls e types
-      → descending (plan_rule_setting s variables) asks e ≡ Some other → StandsInPlan s variables known calls other types
+      → with_steps_below (plan_rule_setting s variables) asks e ≡ Some other → StandsInPlan s variables known calls other types
   descends_stand asks (At place outer carried operator (a_part source (a_part body no_parts))) other types stands h =
       descended_stands place outer carried asks operator source body other types stands h
   descends_stand asks _ other types stands h = absurd (cc)
@@ -215,17 +215,17 @@ module _ (s : SchemaSet) (variables : Types) (known : List FunctionSignature) (c
 pub record IsOrderOf (s : SchemaSet) (place : Place) (found : Option PlanExpression) (other : PlanExpression) : Type 0 where
   pub operand : PlanExpression
   pub is_found : found ≡ Some operand
-  pub is_made : made s place operators.Order (one_part operand) ≡ other
+  pub is_made : made_operator s place operators.Order (one_part operand) ≡ other
 
-order_of_found : (s : SchemaSet) (place : Place) (found : Option PlanExpression) (other : PlanExpression) → in_order s place found ≡ Some other → IsOrderOf s place found other
+order_of_found : (s : SchemaSet) (place : Place) (found : Option PlanExpression) (other : PlanExpression) → ordered_operand s place found ≡ Some other → IsOrderOf s place found other
 order_of_found s place None other h = absurd (cc)
 order_of_found s place (Some e) other h = record { operand = e; is_found = refl; is_made = cc }
 
 pub over_source : (s : SchemaSet) (variables : Types) (place : Place) (variable : ℕ) (source body other : PlanExpression) → slashes_over (plan_rule_setting s variables) place variable source body ≡ Some other
-    → (asks : Test) × IsOrderOf s place (descending (plan_rule_setting s variables) asks (without_order source)) other
+    → (asks : Test) × IsOrderOf s place (with_steps_below (plan_rule_setting s variables) asks (without_order source)) other
 over_source s variables place variable source (At p o c (operators.Step axes.Child asks number) no_parts) other h =
-    let guard = given_if (nat_eq number variable) (in_order s place (descending (plan_rule_setting s variables) asks (without_order source))) other h in
-    (asks, order_of_found s place (descending (plan_rule_setting s variables) asks (without_order source)) other guard.1)
+    let guard = given_if (nat_eq number variable) (ordered_operand s place (with_steps_below (plan_rule_setting s variables) asks (without_order source))) other h in
+    (asks, order_of_found s place (with_steps_below (plan_rule_setting s variables) asks (without_order source)) other guard.1)
 over_source s variables place variable source _ other h = absurd (cc)
 
 pub slashes_hand_on : RuleHandsOn Slashes

@@ -29,7 +29,7 @@ use Rattle.gx_core.specs.Outcome.{given}
 use Rattle.gx_core.specs.Paths.{stepped}
 use Rattle.gx_core.specs.Soundness.{Setting, Keeps, Situation}
 use Rattle.gx_static.specs.Rule.{has_type, has_none, rule}
-use Rattle.gx_rules.specs.Rules.{type_or_items, step_kinds}
+use Rattle.gx_rules.specs.Rules.{kind_ruled, step_kinds}
 use Rattle.gx_rule_laws.proofs.InOrder.{AreThere}
 use Rattle.gx_rule_laws.proofs.FlatValues.{axis_in_order, axis_ascends}
 use Rattle.gx_rule_laws.proofs.AnyItems.{all_take}
@@ -84,12 +84,12 @@ step_of_any_items s is forest axis asks from honest =
 -- it has the type that its rule gives for the type of the variable
 node_step_belongs : (s : SchemaSet) → IsSchemaSet s → (forest : Forest) (axis : Axis) (asks : Test) (number : ℕ) (from : PlainNode) (found : Option SequenceType) → IsHonest s forest
     → ((t : SequenceType) → found ≡ Some t → Belongs s forest (node from ∷ []) t)
-    → Belongs s forest (map node (on_axis s forest from axis asks)) (type_or_items (rule s (operators.Step axis asks number) (step_kinds found)))
+    → Belongs s forest (map node (on_axis s forest from axis asks)) (kind_ruled (rule s (operators.Step axis asks number) (step_kinds found)))
 node_step_belongs s is forest axis asks number from None honest h = step_of_any_items s is forest axis asks from honest
 node_step_belongs s is forest axis asks number from (Some t) honest h = by_test (is_included s t node_type)
   where
     by_test : (b : Bool)
-        → Belongs s forest (map node (on_axis s forest from axis asks)) (type_or_items (if b then has_type (step_type s axis asks t) else has_none XPTY0020 None))
+        → Belongs s forest (map node (on_axis s forest from axis asks)) (kind_ruled (if b then has_type (step_type s axis asks t) else has_none XPTY0020 None))
     by_test true = steps_keep_their_types s forest from axis asks t is honest (h t refl)
     by_test false = step_of_any_items s is forest axis asks from honest
 
@@ -97,7 +97,7 @@ node_step_belongs s is forest axis asks number from (Some t) honest h = by_test 
 pub other_step_keeps : (setting : Setting) → IsSchemaSet setting.schemas → (types : Types) (situation : Situation setting types) (first axis : Axis) (passes asks : Test) (number : ℕ)
     (found : Option SequenceType) (t : SequenceType) → ((u : SequenceType) → found ≡ Some u → look_up types number ≡ Some u)
     → Keeps setting situation.forest t (given (look_up situation.bindings number) (λ value. stepped setting.schemas first passes value situation.forest))
-    → Keeps setting situation.forest (type_or_items (rule setting.schemas (operators.Step axis asks number) (step_kinds found)))
+    → Keeps setting situation.forest (kind_ruled (rule setting.schemas (operators.Step axis asks number) (step_kinds found)))
     (given (look_up situation.bindings number) (λ value. stepped setting.schemas axis asks value situation.forest))
 other_step_keeps setting is types situation first axis passes asks number found t carried keeps = by_value (look_up situation.bindings number) refl keeps
   where
@@ -106,7 +106,7 @@ other_step_keeps setting is types situation first axis passes asks number found 
 
     by_value : (value : Option Items) → look_up situation.bindings number ≡ value
         → Keeps setting situation.forest t (given value (λ xs. stepped setting.schemas first passes xs situation.forest))
-        → Keeps setting situation.forest (type_or_items (rule setting.schemas (operators.Step axis asks number) (step_kinds found)))
+        → Keeps setting situation.forest (kind_ruled (rule setting.schemas (operators.Step axis asks number) (step_kinds found)))
         (given value (λ xs. stepped setting.schemas axis asks xs situation.forest))
     by_value None e h = absurd h
     by_value (Some []) e h = absurd h

@@ -18,7 +18,7 @@ use Rattle.gx_core.specs.Soundness.{Setting, context_of, Situation}
 use Rattle.gx_plan.specs.declared.plan.Carried.{Carried}
 use Rattle.gx_plan.specs.Plan.{PlanExpression, typed_expression}
 use Rattle.gx_rules.specs.Guards.{is_in_join}
-use Rattle.gx_rules.specs.Normal.{Reaches}
+use Rattle.gx_rules.specs.Normal.{PlanReaches}
 use Rattle.gx_rule_laws.specs.KeepingRules.{HasOneBoolean}
 use Rattle.gx_rule_laws.specs.QuietValues.{plan_setting, HasValueInPlace, JoinsCompareInPlace}
 use Rattle.gx_rule_laws.specs.KeepingSoundness.{StandsInPlan, plan_rule_setting}
@@ -87,4 +87,4 @@ abbrev pub RewritingKeepsJoinsFair : Type 0
 RewritingKeepsJoinsFair =
     (schemas : SchemaSet) (variables : Types) (known : List FunctionSignature) (calls : CallOutcomes) (e other : PlanExpression) (types : Types)
     → HasOneBoolean schemas → StandsInPlan schemas variables known calls e types → HasFairJoins (plan_setting schemas variables known calls) e types
-    → Reaches (plan_rule_setting schemas variables) e other → HasFairJoins (plan_setting schemas variables known calls) other types
+    → PlanReaches (plan_rule_setting schemas variables) e other → HasFairJoins (plan_setting schemas variables known calls) other types

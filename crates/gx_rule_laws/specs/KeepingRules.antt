@@ -17,7 +17,7 @@ use Rattle.gx_plan.specs.declared.plan.Carried.{Carried}
 use Rattle.gx_plan.specs.Plan.{PlanExpression, typed_expression}
 use Rattle.gx_plan.specs.Fitting.{IsWellBound}
 use Rattle.gx_plan.specs.SameMeaning.{ComesToTheSame}
-use Rattle.gx_rules.specs.Rules.{RuleSetting, Rule, Idle, applied}
+use Rattle.gx_rules.specs.Rules.{RuleSetting, RewritingRule, Idle, rewritten_by}
 
 -- ---- where a rule is asked
 
@@ -55,12 +55,12 @@ rule_setting_of setting variables = record { schemas = setting.schemas; variable
 
 -- where a rule applies to an expression, what it gives comes to the same: it has the same items, leaves the same forest, or raises the same
 -- code
-abbrev pub KeepsWhereApplied : Setting → (variables : Types) → Rule → Type 0
+abbrev pub KeepsWhereApplied : Setting → (variables : Types) → RewritingRule → Type 0
 KeepsWhereApplied setting variables rule =
-    (e other : PlanExpression) (types : Types) → StandsWell setting e types → applied (rule_setting_of setting variables) rule e ≡ Some other
+    (e other : PlanExpression) (types : Types) → StandsWell setting e types → rewritten_by (rule_setting_of setting variables) rule e ≡ Some other
     → ComesToTheSame setting (meaning (context_of setting) (typed_expression other)) (typed_expression e) types
 
-abbrev pub RuleKeeps : Rule → Type 0
+abbrev pub RuleKeeps : RewritingRule → Type 0
 RuleKeeps rule = (setting : Setting) (variables : Types) → KeepsWhereApplied setting variables rule
 
 -- no type of the schemas derives from xs:boolean but xs:boolean itself

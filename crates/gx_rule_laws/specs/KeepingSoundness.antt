@@ -13,8 +13,8 @@ use Rattle.gx_static.specs.Rule.{atomic}
 use Rattle.gx_plan.specs.declared.plan.Carried.{Carried}
 use Rattle.gx_plan.specs.Plan.{PlanExpression, typed_expression}
 use Rattle.gx_plan.specs.SameMeaning.{ComesToTheSame}
-use Rattle.gx_rules.specs.Rules.{RuleSetting, Rule, applied}
-use Rattle.gx_rules.specs.Normal.{Reaches}
+use Rattle.gx_rules.specs.Rules.{RuleSetting, RewritingRule, rewritten_by}
+use Rattle.gx_rules.specs.Normal.{PlanReaches}
 use Rattle.gx_rule_laws.specs.KeepingRules.{StandsWell, HasOneBoolean}
 use Rattle.gx_rule_laws.specs.QuietValues.{plan_setting}
 
@@ -48,14 +48,14 @@ abbrev pub plan_rule_setting : SchemaSet → (variables : Types) → RuleSetting
 plan_rule_setting schemas variables = record { schemas = schemas; variables = variables }
 
 -- what a rule gives stands in the plan again
-abbrev pub RuleHandsOn : Rule → Type 0
+abbrev pub RuleHandsOn : RewritingRule → Type 0
 RuleHandsOn rule =
     (schemas : SchemaSet) (variables : Types) (known : List FunctionSignature) (calls : CallOutcomes) (e other : PlanExpression) (types : Types)
-    → StandsInPlan schemas variables known calls e types → applied (plan_rule_setting schemas variables) rule e ≡ Some other
+    → StandsInPlan schemas variables known calls e types → rewritten_by (plan_rule_setting schemas variables) rule e ≡ Some other
     → StandsInPlan schemas variables known calls other types
 
 abbrev pub RulesHandOn : Type 0
-RulesHandOn = (rule : Rule) → RuleHandsOn rule
+RulesHandOn = (rule : RewritingRule) → RuleHandsOn rule
 
 -- what any number of applications lead to stands in the plan again, and comes to the same
 pub record IsRewrittenWell (schemas : SchemaSet) (variables : Types) (known : List FunctionSignature) (calls : CallOutcomes)
@@ -67,5 +67,5 @@ pub record IsRewrittenWell (schemas : SchemaSet) (variables : Types) (known : Li
 abbrev pub RewritingKeeps : Type 0
 RewritingKeeps =
     (schemas : SchemaSet) (variables : Types) (known : List FunctionSignature) (calls : CallOutcomes) (e other : PlanExpression) (types : Types)
-    → HasOneBoolean schemas → StandsInPlan schemas variables known calls e types → Reaches (plan_rule_setting schemas variables) e other
+    → HasOneBoolean schemas → StandsInPlan schemas variables known calls e types → PlanReaches (plan_rule_setting schemas variables) e other
     → IsRewrittenWell schemas variables known calls e other types
