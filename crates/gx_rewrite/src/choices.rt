@@ -11,7 +11,7 @@ ghost use Rattle.gx_rewrite.specs.Rewriting.{rewritten_at};
 ghost use Rattle.gx_rewrite.specs.Shapes.{is_decided, chosen_variable, is_idle_call};
 
 use crate::parts::two;
-use crate::rewrite::is_flat;
+use crate::rewrite::{Head, is_flat};
 use gx_base::place::Place;
 use gx_base::type_name::{Builtin, TypeName};
 use gx_core::cases::{Cases, TypeCase};
@@ -28,24 +28,39 @@ use gx_types::sequence_type::Ty;
 use gx_types::type_rules::star;
 use std::alloc::{AllocError, Global};
 
+// The operand of a switch, its cases, the variable of the default, and its branches.
+#[derive(Drop)]
+pub(crate) struct SwitchParts {
+    pub(crate) operand: PlanPart,
+    pub(crate) cases: Cases,
+    pub(crate) default: u32,
+    pub(crate) branches: Vec<PlanExpr>,
+}
+
 // A switch: a `let` where its first branch is chosen for certain, or as it is.
 #[tactic(auto, using(crate::proofs::ChoiceLemmas::decided_applies, crate::proofs::ChoiceLemmas::switch_stays, crate::proofs::ChoiceLemmas::facts_of_branches))]
 pub(crate) fn switched(
     alloc: Global,
     schemas: &Schemas,
-    place: Place,
-    outer: Place,
-    carried: Carried,
-    operand: PlanPart,
-    cases: Cases,
-    default: u32,
-    branches: Vec<PlanExpr>,
+    head: Head,
+    parts: SwitchParts,
     flat: &[bool],
 ) -> Result<(PlanExpr, bool), AllocError>
-    requires { flat.now ≡ is_flat operand.value ∷ map is_flat branches.items }
-    ensures made { (variables : Types) → IfOk result (λ r. r.0 ≡ rewritten_at (record { schemas = schemas.now; variables = variables }) (At place outer carried (operators.Switch cases default) (a_part operand.value (all_parts branches.items)))) }
+    requires { flat.now ≡ is_flat parts.operand.value ∷ map is_flat parts.branches.items }
+    ensures made { (variables : Types) → IfOk result (λ r. r.0 ≡ rewritten_at (record { schemas = schemas.now; variables = variables }) (At head.place head.outer head.carried (operators.Switch parts.cases parts.default) (a_part parts.operand.value (all_parts parts.branches.items)))) }
     ensures flat { IfOk result (λ r. r.1 ≡ is_flat r.0) }
 {
+    let Head {
+        place,
+        outer,
+        carried,
+    } = head;
+    let SwitchParts {
+        operand,
+        cases,
+        default,
+        branches,
+    } = parts;
     if is_decided(
         alloc,
         schemas,
@@ -140,17 +155,20 @@ fn chosen(
 pub(crate) fn called(
     alloc: Global,
     schemas: &Schemas,
-    place: Place,
-    outer: Place,
-    carried: Carried,
+    head: Head,
     function: Function,
     arguments: Vec<PlanExpr>,
     flat: &[bool],
 ) -> Result<(PlanExpr, bool), AllocError>
     requires { flat.now ≡ map is_flat arguments.items }
-    ensures made { (variables : Types) → IfOk result (λ r. r.0 ≡ rewritten_at (record { schemas = schemas.now; variables = variables }) (At place outer carried (operators.Call function) (all_parts arguments.items))) }
+    ensures made { (variables : Types) → IfOk result (λ r. r.0 ≡ rewritten_at (record { schemas = schemas.now; variables = variables }) (At head.place head.outer head.carried (operators.Call function) (all_parts arguments.items))) }
     ensures flat { IfOk result (λ r. r.1 ≡ is_flat r.0) }
 {
+    let Head {
+        place,
+        outer,
+        carried,
+    } = head;
     if is_idle_call(alloc, schemas, function, arguments.as_slice())? {
         drop(carried);
         return Ok((first_of(arguments), flat[0]));
@@ -188,16 +206,19 @@ fn is_idle_call(
 pub(crate) fn atomized(
     alloc: Global,
     schemas: &Schemas,
-    place: Place,
-    outer: Place,
-    carried: Carried,
+    head: Head,
     operand: PlanPart,
     flat: bool,
 ) -> Result<(PlanExpr, bool), AllocError>
     requires { flat ≡ is_flat operand.value }
-    ensures made { (variables : Types) → IfOk result (λ r. r.0 ≡ rewritten_at (record { schemas = schemas.now; variables = variables }) (At place outer carried operators.DataOf (one_part operand.value))) }
+    ensures made { (variables : Types) → IfOk result (λ r. r.0 ≡ rewritten_at (record { schemas = schemas.now; variables = variables }) (At head.place head.outer head.carried operators.DataOf (one_part operand.value))) }
     ensures flat { IfOk result (λ r. r.1 ≡ is_flat r.0) }
 {
+    let Head {
+        place,
+        outer,
+        carried,
+    } = head;
     let values = any_atomic_values(alloc)?;
     if is_included(alloc, schemas, &operand.kind.kind, &values)? {
         drop(carried);

@@ -12,7 +12,7 @@ ghost use Rattle.gx_rewrite.specs.Rewriting.{rewritten_at};
 use crate::joins::{is_join_loop, joined};
 use crate::order::is_own;
 use crate::parts::two;
-use crate::rewrite::is_flat;
+use crate::rewrite::{Head, is_flat};
 use gx_base::place::Place;
 use gx_base::type_name::Builtin;
 use gx_core::expression::{Binder, Form};
@@ -24,30 +24,43 @@ use gx_static::item_tests::{atomic, is_at_most_one};
 use gx_types::schemas::Schemas;
 use std::alloc::{AllocError, Global};
 
+// The variables of a loop, its source and its body.
+#[derive(Drop)]
+pub(crate) struct LoopParts {
+    pub(crate) binder: Binder,
+    pub(crate) position: u32,
+    pub(crate) source: PlanPart,
+    pub(crate) body: PlanPart,
+}
+
 // A loop: a `let` where its source has one item, a join where its body is a loop over a comparison of keys, or as it is.
 #[tactic(auto, using(crate::proofs::LoopLemmas::single_applies, crate::proofs::LoopLemmas::join_applies, crate::proofs::LoopLemmas::loop_stays))]
 pub(crate) fn looped(
     alloc: Global,
     schemas: &Schemas,
-    place: Place,
-    outer: Place,
-    carried: Carried,
-    binder: Binder,
-    position: u32,
-    source: PlanPart,
-    body: PlanPart,
+    head: Head,
+    parts: LoopParts,
     flat: &[bool],
 ) -> Result<(PlanExpr, bool), AllocError>
-    requires { flat.now ≡ is_flat source.value ∷ is_flat body.value ∷ [] }
-    ensures made { (variables : Types) → IfOk result (λ r. r.0 ≡ rewritten_at (record { schemas = schemas.now; variables = variables }) (At place outer carried (operators.For binder position) (two_parts source.value body.value))) }
+    requires { flat.now ≡ is_flat parts.source.value ∷ is_flat parts.body.value ∷ [] }
+    ensures made { (variables : Types) → IfOk result (λ r. r.0 ≡ rewritten_at (record { schemas = schemas.now; variables = variables }) (At head.place head.outer head.carried (operators.For parts.binder parts.position) (two_parts parts.source.value parts.body.value))) }
     ensures flat { IfOk result (λ r. r.1 ≡ is_flat r.0) }
 {
-    if is_single(carried.role, &source) {
+    let Head {
+        place,
+        outer,
+        carried,
+    } = head;
+    if is_single(carried.role, &parts.source) {
         drop(carried);
-        return single(
-            alloc, schemas, place, binder, position, source, body, flat[1],
-        );
+        return single(alloc, schemas, place, parts, flat[1]);
     }
+    let LoopParts {
+        binder,
+        position,
+        source,
+        body,
+    } = parts;
     if is_join_loop(
         alloc,
         schemas,
@@ -81,16 +94,19 @@ fn single(
     alloc: Global,
     schemas: &Schemas,
     place: Place,
-    binder: Binder,
-    position: u32,
-    source: PlanPart,
-    body: PlanPart,
+    parts: LoopParts,
     flat: bool,
 ) -> Result<(PlanExpr, bool), AllocError>
-    requires { flat ≡ is_flat body.value }
-    ensures made { IfOk result (λ r. r.0 ≡ made_let schemas.now place binder source.value (with_position schemas.now place position body.value)) }
+    requires { flat ≡ is_flat parts.body.value }
+    ensures made { IfOk result (λ r. r.0 ≡ made_let schemas.now place parts.binder parts.source.value (with_position schemas.now place parts.position parts.body.value)) }
     ensures flat { IfOk result (λ r. r.1 ≡ is_flat r.0) }
 {
+    let LoopParts {
+        binder,
+        position,
+        source,
+        body,
+    } = parts;
     let (body, flat) = with_position(alloc, schemas, place, position, body, flat)?;
     let parts = two(alloc, Box::into_inner(source), body)?;
     let made = made_as(

@@ -11,16 +11,15 @@ ghost use Rattle.gx_rewrite.specs.Rewriting.{rewritten_at};
 ghost use Rattle.gx_rewrite.specs.Shapes.{is_in_order, is_slashed, is_child_step_from, steps_to_all_below};
 
 use crate::parts::{one, two};
+use crate::rewrite::{Head, Rewriter};
 use gx_base::place::Place;
 use gx_core::expression::{Expr, Form};
 use gx_core::operator::Operator;
-use gx_core::scope::Scope;
-use gx_plan::plan::{Carried, PlanExpr, PlanPart, Role};
+use gx_plan::plan::{PlanExpr, PlanPart, Role};
 use gx_rules::flat::is_sorted;
 use gx_rules::made::{made_as, made_step};
 use gx_static::item_tests::is_at_most_one;
 use gx_types::schemas::Schemas;
-use gx_types::sequence_type::Ty;
 use gx_types::step::{Axis, Test};
 use std::alloc::{AllocError, Global};
 
@@ -28,26 +27,28 @@ use std::alloc::{AllocError, Global};
 #[tactic(auto, using(crate::proofs::OrderLemmas::order_goes, crate::proofs::OrderLemmas::order_stays, crate::proofs::OrderLemmas::order_descends))]
 pub(crate) fn ordered(
     alloc: Global,
-    schemas: &Schemas,
-    variables: &Scope<Ty>,
-    place: Place,
-    outer: Place,
-    carried: Carried,
+    rewriter: &Rewriter<'_>,
+    head: Head,
     operand: PlanPart,
     flat: bool,
 ) -> Result<(PlanExpr, bool), AllocError>
     requires { flat ≡ is_flat operand.value }
-    ensures made { IfOk result (λ r. r.0 ≡ rewritten_at (record { schemas = schemas.now; variables = variables.now }) (At place outer carried operators.Order (one_part operand.value))) }
+    ensures made { IfOk result (λ r. r.0 ≡ rewritten_at (record { schemas = rewriter.now.schemas.now; variables = rewriter.now.variables.now }) (At head.place head.outer head.carried operators.Order (one_part operand.value))) }
     ensures flat { IfOk result (λ r. r.1 ≡ is_flat r.0) }
 {
+    let Head {
+        place,
+        outer,
+        carried,
+    } = head;
     if is_in_order(&operand, flat) {
         drop(carried);
         return Ok((Box::into_inner(operand), flat));
     }
     if is_slashed(&operand) {
         drop(carried);
-        let (below, flat) = slashed(alloc, schemas, variables, Box::into_inner(operand))?;
-        return in_order(alloc, schemas, place, below, flat);
+        let (below, flat) = slashed(alloc, rewriter, Box::into_inner(operand))?;
+        return in_order(alloc, rewriter.schemas, place, below, flat);
     }
     let is_flat = is_at_most_one(&carried.kind);
     Ok((
@@ -159,12 +160,11 @@ fn is_step_to_all_below(variable: u32, body: &PlanExpr) -> bool
 #[tactic(auto, using(crate::proofs::OrderLemmas::slashed_source, crate::proofs::OrderLemmas::slashed_step, crate::proofs::OrderLemmas::slashes_by))]
 fn slashed(
     alloc: Global,
-    schemas: &Schemas,
-    variables: &Scope<Ty>,
+    rewriter: &Rewriter<'_>,
     operand: PlanExpr,
 ) -> Result<(PlanExpr, bool), AllocError>
     requires { is_slashed operand ≡ true }
-    ensures made { (place outer : PlaceInText) → (carried : CarriedByPlan) → IfOk result (λ r. slashes (record { schemas = schemas.now; variables = variables.now }) (At place outer carried operators.Order (one_part operand)) ≡ ordered_operand schemas.now place (Some r.0)) }
+    ensures made { (place outer : PlaceInText) → (carried : CarriedByPlan) → IfOk result (λ r. slashes (record { schemas = rewriter.now.schemas.now; variables = rewriter.now.variables.now }) (At place outer carried operators.Order (one_part operand)) ≡ ordered_operand rewriter.now.schemas.now place (Some r.0)) }
     ensures flat { IfOk result (λ r. r.1 ≡ is_flat r.0) }
 {
     let (_place, _outer, _carried, form) = operand.into_parts();
@@ -173,7 +173,7 @@ fn slashed(
             let (_place, _outer, _carried, step) = Box::into_inner(body).into_parts();
             match step {
                 Form::Step(_, test, _) => {
-                    descending(alloc, schemas, variables, test, without_order(source))
+                    descending(alloc, rewriter, test, without_order(source))
                 }
                 _ => unreachable!(),
             }
@@ -200,20 +200,20 @@ fn without_order(source: PlanPart) -> PlanExpr
 // The same loop or `let` with a step to the descendants that pass a test.
 fn descending(
     alloc: Global,
-    schemas: &Schemas,
-    variables: &Scope<Ty>,
+    rewriter: &Rewriter<'_>,
     test: Test,
     expression: PlanExpr,
 ) -> Result<(PlanExpr, bool), AllocError>
     requires { steps_to_all_below expression ≡ true }
-    ensures made { IfOk result (λ r. with_steps_below (record { schemas = schemas.now; variables = variables.now }) test expression ≡ Some r.0) }
+    ensures made { IfOk result (λ r. with_steps_below (record { schemas = rewriter.now.schemas.now; variables = rewriter.now.variables.now }) test expression ≡ Some r.0) }
     ensures flat { IfOk result (λ r. r.1 ≡ is_flat r.0) }
 {
     let (place, _outer, _carried, form) = expression.into_parts();
+    let schemas = rewriter.schemas;
     match form {
         Form::For(binder, position, source, _body) => {
             let variable = binder.variable;
-            let step = made_step(alloc, schemas, variables, place, test, variable)?;
+            let step = made_step(alloc, schemas, rewriter.variables, place, test, variable)?;
             let parts = two(alloc, Box::into_inner(source), step)?;
             let operator = Operator::For(binder, position);
             let made = made_as(alloc, schemas, Role::Own, place, operator, parts)?;
@@ -222,7 +222,7 @@ fn descending(
         }
         Form::Let(binder, value, _body) => {
             let variable = binder.variable;
-            let step = made_step(alloc, schemas, variables, place, test, variable)?;
+            let step = made_step(alloc, schemas, rewriter.variables, place, test, variable)?;
             let is_one = is_at_most_one(&step.kind.kind);
             let parts = two(alloc, Box::into_inner(value), step)?;
             let operator = Operator::Let(binder);

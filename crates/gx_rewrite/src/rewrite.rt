@@ -8,9 +8,10 @@ ghost use Rattle.gx_rules.specs.Normal.{IsRewritten};
 ghost use Rattle.gx_rewrite.specs.Rewriting.{rewritten_at, rewritten_operator, setting_of};
 ghost use Rattle.gx_rewrite.specs.Shapes.{some_rule_asks_for, parts_flat};
 
-use crate::choices::{atomized, called, switched};
-use crate::loops::looped;
+use crate::choices::{SwitchParts, atomized, called, switched};
+use crate::loops::{LoopParts, looped};
 use crate::order::ordered;
+use gx_base::place::Place;
 use gx_core::expression::Form;
 use gx_core::scope::Scope;
 use gx_plan::operands::form_of;
@@ -40,9 +41,17 @@ pub fn rewrite(alloc: Global, schemas: &Schemas, plan: Plan) -> Result<Plan, All
 
 // What the rules look at.
 #[derive(Drop)]
-struct Rewriter<'a> {
-    schemas: &'a Schemas,
-    variables: &'a Scope<Ty>,
+pub(crate) struct Rewriter<'a> {
+    pub(crate) schemas: &'a Schemas,
+    pub(crate) variables: &'a Scope<Ty>,
+}
+
+// Where an operator stands, and what it carries.
+#[derive(Drop)]
+pub(crate) struct Head {
+    pub(crate) place: Place,
+    pub(crate) outer: Place,
+    pub(crate) carried: Carried,
 }
 
 impl<'a> Remake<Carried, Carried, bool> for Rewriter<'a> {
@@ -77,13 +86,7 @@ impl<'a> Remake<Carried, Carried, bool> for Rewriter<'a> {
                     kind: carried,
                     form,
                 };
-                rewritten(
-                    alloc,
-                    self.schemas,
-                    self.variables,
-                    expression,
-                    facts.as_slice(),
-                )
+                rewritten(alloc, self, expression, facts.as_slice())
             }
             Err(error) => {
                 drop(carried);
@@ -97,13 +100,12 @@ impl<'a> Remake<Carried, Carried, bool> for Rewriter<'a> {
 #[tactic(auto, using(crate::proofs::Forms::others_stay, crate::proofs::ChoiceLemmas::facts_of_branches, crate::proofs::ChoiceLemmas::facts_of_arguments))]
 fn rewritten(
     alloc: Global,
-    schemas: &Schemas,
-    variables: &Scope<Ty>,
+    rewriter: &Rewriter<'_>,
     expression: PlanExpr,
     flat: &[bool],
 ) -> Result<(PlanExpr, bool), AllocError>
     requires { flat.now ≡ parts_flat expression }
-    ensures made { IfOk result (λ r. r.0 ≡ rewritten_at (record { schemas = schemas.now; variables = variables.now }) expression) }
+    ensures made { IfOk result (λ r. r.0 ≡ rewritten_at (record { schemas = rewriter.now.schemas.now; variables = rewriter.now.variables.now }) expression) }
     ensures flat { IfOk result (λ r. r.1 ≡ is_flat r.0) }
 {
     if !some_rule_asks_for(&expression.form) {
@@ -111,26 +113,35 @@ fn rewritten(
         return Ok((expression, is_flat));
     }
     let (place, outer, carried, form) = expression.into_parts();
+    let head = Head {
+        place,
+        outer,
+        carried,
+    };
     match form {
-        Form::Order(operand) => {
-            ordered(
-                alloc, schemas, variables, place, outer, carried, operand, flat[0],
-            )
-        }
+        Form::Order(operand) => ordered(alloc, rewriter, head, operand, flat[0]),
         Form::For(binder, position, source, body) => {
-            looped(
-                alloc, schemas, place, outer, carried, binder, position, source, body, flat,
-            )
+            let parts = LoopParts {
+                binder,
+                position,
+                source,
+                body,
+            };
+            looped(alloc, rewriter.schemas, head, parts, flat)
         }
-        Form::Switch(operand, cases, default, branches) => switched(
-            alloc, schemas, place, outer, carried, operand, cases, default, branches, flat,
-        ),
+        Form::Switch(operand, cases, default, branches) => {
+            let parts = SwitchParts {
+                operand,
+                cases,
+                default,
+                branches,
+            };
+            switched(alloc, rewriter.schemas, head, parts, flat)
+        }
         Form::Call(function, arguments) => {
-            called(
-                alloc, schemas, place, outer, carried, function, arguments, flat,
-            )
+            called(alloc, rewriter.schemas, head, function, arguments, flat)
         }
-        Form::DataOf(operand) => atomized(alloc, schemas, place, outer, carried, operand, flat[0]),
+        Form::DataOf(operand) => atomized(alloc, rewriter.schemas, head, operand, flat[0]),
         _ => unreachable!(),
     }
 }

@@ -31,7 +31,7 @@ unreachable-requires c =
 
 pub returns-clause-made : goal.returns-clause-made
 returns-clause-made c = λ place outer carried.
-    let setting : RuleSetting = record { schemas = c.args.schemas.now; variables = c.args.variables.now } in
+    let setting : RuleSetting = record { schemas = c.args.rewriter.now.schemas.now; variables = c.args.rewriter.now.variables.now } in
     let p = c.into_parts-carried.result in
     let q = c.into_parts-carried-in-For.result in
     let is : c.args.operand ≡ At p.0 p.1 p.2 (operators.For c.in-For._binder c.in-For.field-1) (two_parts c.in-For.source.value c.in-For.body.value) =
@@ -41,12 +41,12 @@ returns-clause-made c = λ place outer carried.
     ∙ ap (λ (f : Form Carried). At q.0 q.1 q.2 (operator_of f) (parts_of f)) c.in-Step.is in
     let order : PlanExpression → PlanExpression = λ e. At place outer carried operators.Order (one_part e) in
     if_ok_gives c.descending.result (λ r. with_steps_below setting c.in-Step.test c.without_order.result ≡ Some r.0)
-    (λ r. slashes setting (order c.args.operand) ≡ ordered_operand c.args.schemas.now place (Some r.0))
+    (λ r. slashes setting (order c.args.operand) ≡ ordered_operand c.args.rewriter.now.schemas.now place (Some r.0))
     (λ r k.
     let found : with_steps_below setting c.in-Step.test (without_order c.in-For.source.value) ≡ Some r.0 =
     ap (with_steps_below setting c.in-Step.test) (sym c.without_order.ensures) ∙ k in
     let over : slashes setting (order (At p.0 p.1 p.2 (operators.For c.in-For._binder c.in-For.field-1) (two_parts c.in-For.source.value c.in-For.body.value)))
-    ≡ ordered_operand c.args.schemas.now place (Some r.0) =
+    ≡ ordered_operand c.args.rewriter.now.schemas.now place (Some r.0) =
     slashes_by setting place outer carried p.0 p.1 p.2 c.in-For._binder c.in-For.field-1 c.in-For.source.value c.in-For.body.value r.0 q.0 q.1 q.2
     c.in-Step.field-0 c.in-Step.test c.in-Step.field-2 (ap is_slashed (sym is) ∙ c.requires) step found in
     ap (λ (e : PlanExpression). slashes setting (order e)) is ∙ over)
