@@ -48,12 +48,12 @@ operator_again s place outer k operators.Nodes (a_part operand no_parts) types e
 operator_again s place outer k _ parts types e h = ((e, h), refl)
 
 mutual
-  tree_again : (s : SchemaSet) (t : TypedExpression) (types : Types) → HasItsTypes s t types → HasItsTypes s (again t) types × (annotation_of (again t) ≡ annotation_of t)
+  pub tree_again : (s : SchemaSet) (t : TypedExpression) (types : Types) → HasItsTypes s t types → HasItsTypes s (again t) types × (annotation_of (again t) ≡ annotation_of t)
   tree_again s (At place outer k operator parts) types h =
       let p = parts_again s operator [] parts types h.1 in
       operator_again s place outer k operator (compiled_parts parts) types (subst (λ (ts : List SequenceType). ruling s operator ts types ≡ has_type k) (sym p.1) h.0) p.0
 
-  parts_again : (s : SchemaSet) (operator : Operator) (before : List SequenceType) (parts : Parts SequenceType) (types : Types) → PartsHaveTheirTypes s operator before parts types
+  pub parts_again : (s : SchemaSet) (operator : Operator) (before : List SequenceType) (parts : Parts SequenceType) (types : Types) → PartsHaveTheirTypes s operator before parts types
       → PartsHaveTheirTypes s operator before (typed_parts (compiled_parts parts)) types × (each_of annotation_of (typed_parts (compiled_parts parts)) ≡ each_of annotation_of parts)
   parts_again s operator before no_parts types h = (tt, refl)
   parts_again s operator before (a_part first others) types h =

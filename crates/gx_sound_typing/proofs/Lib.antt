@@ -4,3 +4,7 @@ pub mod TakenArguments
 pub mod FullTyping
 pub mod CompiledTyping
 pub mod CarriedBinders
+pub mod VariableTables
+pub mod CarriedVariables
+pub mod CountedVariables
+pub mod CompiledPlans

@@ -1,13 +1,19 @@
 -- Full soundness where variables have the types that they carry.
 use Rattle.std.specs.Prelude.{◌≡◌, ℕ, List, [], ◌∷◌, map, Option, None, Some, take}
 use Rattle.gx_types.specs.SchemaSet.{SchemaSet}
+use Rattle.gx_types.specs.SchemaInvariant.{IsSchemaSet}
 use Rattle.gx_types.specs.SequenceType.{SequenceType}
 use Rattle.gx_core.specs.declared.expression.Declaration.TheVariants.{Global, Function}
 use Rattle.gx_core.specs.declared.operator.Operator.{Operator}
-use Rattle.gx_core.specs.Queries.{TypedCore, TypedDeclaration}
+use Rattle.gx_core.specs.Queries.{Core, TypedCore, TypedDeclaration}
+use Rattle.gx_core.specs.Invariant.{HasQueryVariablesInOrder, CallsDeclaredFunctions}
 use Rattle.gx_core.specs.Expression.{At, Parts, no_parts, a_part, each_of, annotation_of}
 use Rattle.gx_core.specs.Bindings.{Types, look_up, types_bound, numbers_bound_by}
 use Rattle.gx_core.specs.Soundness.{TypedExpression}
+use Rattle.gx_static.specs.QueryJudgement.{query_typed, query_judged}
+use Rattle.gx_plan.specs.Plan.{typed_query}
+use Rattle.gx_plan.specs.Compiling.{compiled_query}
+use Rattle.gx_plan.specs.Variables.{variables_of_query}
 use Rattle.gx_plan.specs.FullSoundness.{Binders, IsFullySoundQuery}
 
 -- ---- the types that variables carry
@@ -65,3 +71,17 @@ abbrev pub FullSoundnessWithCarriedTypes : Type 0
 FullSoundnessWithCarriedTypes =
     (schemas : SchemaSet) (variables : Types) (query : TypedCore) → CarryBoundInQuery variables query
     → IsFullySoundQuery schemas types_bound query → IsFullySoundQuery schemas (carried_binders variables) query
+
+-- each variable of a compiled query carries the type that its binder gives, where the query that it is made of has types and its variables
+-- are in order
+abbrev pub CompiledQueriesCarryBound : Type 0
+CompiledQueriesCarryBound =
+    (schemas : SchemaSet) (core : Core) (query : TypedCore) → IsSchemaSet schemas → query_judged schemas core ≡ query_typed query
+    → HasQueryVariablesInOrder core → CarryBoundInQuery (variables_of_query (compiled_query query)) (typed_query (compiled_query query))
+
+-- so a compiled query is fully sound with the types that its variables carry
+abbrev pub CompiledPlansAreFullySound : Type 0
+CompiledPlansAreFullySound =
+    (schemas : SchemaSet) (core : Core) (query : TypedCore) → IsSchemaSet schemas → query_judged schemas core ≡ query_typed query
+    → HasQueryVariablesInOrder core → CallsDeclaredFunctions core
+    → IsFullySoundQuery schemas (carried_binders (variables_of_query (compiled_query query))) (typed_query (compiled_query query))

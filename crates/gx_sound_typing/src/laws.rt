@@ -2,7 +2,7 @@
 
 ghost use Rattle.gx_sound_typing.specs.FullTyping.{TypedExpressionsAreFullySound, TypedQueriesAreFullySound};
 ghost use Rattle.gx_sound_typing.specs.CompiledTyping.{CompiledExpressionsHaveTheirTypes, CompiledQueriesAreFullySound};
-ghost use Rattle.gx_sound_typing.specs.CarriedTyping.{FullSoundnessWithCarriedTypes};
+ghost use Rattle.gx_sound_typing.specs.CarriedTyping.{FullSoundnessWithCarriedTypes, CompiledQueriesCarryBound, CompiledPlansAreFullySound};
 
 /// An expression that is judged to have a type is fully sound, with the types that the static rules give its variables.
 pub fn typed_expressions_are_fully_sound()
@@ -28,4 +28,16 @@ pub fn compiled_queries_are_fully_sound()
 /// are those of their binders.
 pub fn full_soundness_with_carried_types()
     ensures { FullSoundnessWithCarriedTypes }
+{}
+
+/// Each variable of a compiled query carries the type that its binder gives, where the query that it is made of has types and its variables
+/// are in order.
+pub fn compiled_queries_carry_bound()
+    ensures { CompiledQueriesCarryBound }
+{}
+
+/// A compiled query is fully sound with the types that its variables carry, where the query that it is made of has types, its variables are
+/// in order and it calls functions of its own alone.
+pub fn compiled_plans_are_fully_sound()
+    ensures { CompiledPlansAreFullySound }
 {}
