@@ -1,0 +1,10 @@
+pub mod TypedTrees
+pub mod NamedVariables
+pub mod TakenArguments
+pub mod FullTyping
+pub mod CompiledTyping
+pub mod CarriedBinders
+pub mod VariableTables
+pub mod CarriedVariables
+pub mod CountedVariables
+pub mod CompiledPlans

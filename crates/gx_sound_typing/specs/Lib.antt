@@ -1,0 +1,3 @@
+pub mod FullTyping
+pub mod CompiledTyping
+pub mod CarriedTyping
