@@ -1,5 +1,5 @@
 -- Expressions that raise no error and make no node have a value, and leave the forest as it is.
-use Rattle.std.specs.Prelude.{◌≡◌, ℕ, Bool, true, false, List, [], ◌∷◌, ◌++◌, map, Option, None, Some}
+use Rattle.std.specs.Prelude.{◌≡◌, Bool, true, false, List, [], ◌∷◌, ◌++◌}
 use Rattle.gx_types.specs.SchemaSet.{SchemaSet}
 use Rattle.gx_types.specs.SequenceType.{SequenceType}
 use Rattle.gx_model.specs.Forest.{Forest}
@@ -7,7 +7,7 @@ use Rattle.gx_model.specs.Item.{Items}
 use Rattle.gx_core.specs.declared.operator.Operator.{Operator}
 use Rattle.gx_core.specs.declared.operator.Operator.TheVariants as operators
 use Rattle.gx_core.specs.declared.signature.FunctionSignature.{FunctionSignature}
-use Rattle.gx_core.specs.Bindings.{Types, look_up, numbers_bound_by}
+use Rattle.gx_core.specs.Bindings.{Types}
 use Rattle.gx_core.specs.Expression.{At, Parts, no_parts, a_part, annotation_of}
 use Rattle.gx_core.specs.Meaning.{CallOutcomes, meaning}
 use Rattle.gx_core.specs.Outcome.{Outcome, gives, raises, wrong}
@@ -15,24 +15,12 @@ use Rattle.gx_core.specs.Soundness.{Setting, context_of, Situation}
 use Rattle.gx_plan.specs.declared.plan.Role.{Role}
 use Rattle.gx_plan.specs.declared.plan.Carried.{Carried}
 use Rattle.gx_plan.specs.Plan.{PlanExpression, typed_expression}
-use Rattle.gx_plan.specs.FullSoundness.{Binders, carrying_setting}
+use Rattle.gx_plan.specs.FullSoundness.{carrying_setting}
 use Rattle.gx_rules.specs.Guards.{is_in_join, is_quiet}
+pub use Rattle.gx_sound_typing.specs.CarriedTyping.{with_carried, carried_types, carried_binders}
 use Rattle.gx_rule_laws.specs.KeepingRules.{StandsWell}
 
 -- ---- the setting of a plan
-
--- the types that variables carry, of those variables that carry one
-abbrev pub with_carried : ℕ → Option SequenceType → Types → Types
-with_carried number None others = others
-with_carried number (Some t) others = (number, t) ∷ others
-
-abbrev pub carried_types : (variables : Types) → List ℕ → Types
-carried_types variables [] = []
-carried_types variables (number ∷ numbers) = with_carried number (look_up variables number) (carried_types variables numbers)
-
--- what an operator binds for its next part has the types that its variables carry
-abbrev pub carried_binders : (variables : Types) → Binders
-carried_binders variables operator before = carried_types variables (numbers_bound_by operator (map (λ t. tt) before))
 
 abbrev pub plan_setting : SchemaSet → (variables : Types) → (known : List FunctionSignature) → CallOutcomes → Setting
 plan_setting schemas variables known calls = carrying_setting schemas (carried_binders variables) known calls
