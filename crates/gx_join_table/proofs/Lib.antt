@@ -1,0 +1,3 @@
+pub mod AscendingLemmas
+pub mod NumberLemmas
+pub mod IndexLemmas

@@ -1,0 +1,4 @@
+pub mod Joining
+pub mod RowNumbers
+pub mod KeyIndex
+pub mod TableView

@@ -1,0 +1,7 @@
+//! The table of a hash join, and a counter of the steps that it takes.
+#![tactic(auto)]
+
+pub mod join_table;
+mod key_index;
+mod row_numbers;
+pub mod steps;
