@@ -58,7 +58,7 @@ in_deduped p (x ∷ xs) = in_deduped_from p x xs
 abbrev HaveSameNumbers : List ℕ → List ℕ → Type 0
 HaveSameNumbers ms ns = (n : ℕ) → list_any (nat_eq n) ms ≡ list_any (nat_eq n) ns
 
-differs : (k m : ℕ) → m < k → nat_eq k m ≡ false
+pub differs : (k m : ℕ) → m < k → nat_eq k m ≡ false
 differs k m l = by_test (nat_eq k m) refl
   where
     by_test : (b : Bool) → nat_eq k m ≡ b → b ≡ false
@@ -73,7 +73,7 @@ differs_below k m l = by_test (nat_eq k m) refl
     by_test false e = refl
 
 -- a number below all of a list is not in it
-not_there : (least n : ℕ) (ns : List ℕ) → n < least → AscendFrom least ns → list_any (nat_eq n) ns ≡ false
+pub not_there : (least n : ℕ) (ns : List ℕ) → n < least → AscendFrom least ns → list_any (nat_eq n) ns ≡ false
 not_there least n [] l a = refl
 not_there least n (m ∷ ns) l a =
     ap (λ (b : Bool). b || list_any (nat_eq n) ns) (differs_below n m (omega (arith, a.0))) ∙ not_there (suc m) n ns (omega (arith, a.0)) a.1

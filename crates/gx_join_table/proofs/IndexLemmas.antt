@@ -1,15 +1,16 @@
 -- Rows under keys, where a row is put under one key or under several.
-use Rattle.std.proofs.Common.{◌≡◌, ℕ, zero, suc, ◌+◌, ◌-◌, ◌<◌, ◌≤◌, Bool, true, false, not, ◌||◌, nat_eq, nat_lt, cond, List, [], ◌∷◌, ◌++◌, None, Some, length, slice_get, get_or, position, if◌then◌else◌, refl, sym, ap, ◌∙◌, arith, subst}
+use Rattle.std.proofs.Common.{◌≡◌, ℕ, zero, suc, ◌+◌, ◌-◌, ◌<◌, ◌≤◌, Bool, true, false, not, ◌||◌, nat_eq, nat_lt, cond, List, Option, [], ◌∷◌, ◌++◌, None, Some, length, slice_get, get_or, position, if◌then◌else◌, refl, sym, ap, ◌∙◌, arith, subst, append_assoc}
 use Rattle.std.specs.Prelude.{Vec}
 use Rattle.std.specs.Global.{Global}
 use Rattle.std.specs.Cmp.{IsEquivalence}
+use Rattle.std.specs.Option.{option_map_or}
 use Rattle.std.specs.List.{list_any, position_or_len, AllByRecursion}
 use Rattle.std.proofs.Math.ListN.{set}
 use Rattle.std.proofs.lemmas.Bool.{eqb-true, eq-eqb, ltb-true, ltb-false}
 use Rattle.std.proofs.lemmas.List.{length-append, append-nil}
 use Rattle.indexmap.specs.IndexSet.{insert_key}
 use Rattle.gx_join_table.specs.Joining.{numbers_from}
-use Rattle.gx_join_table.specs.RowNumbers.{is_number, with_last}
+use Rattle.gx_join_table.specs.RowNumbers.{with_last}
 use Rattle.gx_join_table.specs.KeyIndex.{IsAligned, rows_at_place, rows_under, IsPutUnder, IsPutUnderEach, IsIndexOf}
 use Rattle.gx_join_table.proofs.NumberLemmas.{numbers_with_one_more, numbers_are_below}
 
@@ -21,9 +22,17 @@ abbrev pub HasPlace : Bool → List Rows → List Rows → Type 0
 HasPlace true rs next = (empty : Rows) × (empty.items ≡ []) × (next ≡ rs ++ empty ∷ [])
 HasPlace false rs next = next ≡ rs
 
+pub place_is_new : (added : Bool) (rs pushed next : List Rows) (empty : Rows) → added ≡ true → empty.items ≡ [] → pushed ≡ rs ++ empty ∷ [] → next ≡ pushed → HasPlace added rs next
+place_is_new true rs pushed next empty a e p n = (empty, e, n ∙ p)
+place_is_new false rs pushed next empty a e p n = absurd (cc)
+
+pub place_is_there : (added : Bool) (rs next : List Rows) → added ≡ false → next ≡ rs → HasPlace added rs next
+place_is_there true rs next a n = absurd (cc)
+place_is_there false rs next a n = n
+
 -- a number behind others
 
-not_number : (n k : ℕ) (ns : List ℕ) → AllByRecursion (λ m. m < n) ns → is_number n (slice_get ns k) ≡ false
+not_number : (n k : ℕ) (ns : List ℕ) → AllByRecursion (λ m. m < n) ns → option_map_or (λ m. nat_eq m n) (slice_get ns k) false ≡ false
 not_number n k [] h = refl
 not_number n zero (m ∷ ns) h = by_test (nat_eq m n) refl
   where
@@ -43,7 +52,7 @@ is_behind : (n : ℕ) (ns : List ℕ) → with_last (ns ++ n ∷ []) n ≡ ns ++
 is_behind n ns =
     let place : length (ns ++ n ∷ []) - 1 ≡ length ns = omega (arith, length-append ns (n ∷ [])) in
     let there : slice_get (ns ++ n ∷ []) (length (ns ++ n ∷ []) - 1) ≡ Some n = ap (slice_get (ns ++ n ∷ [])) place ∙ at_end n ns in
-    ap (λ (b : Bool). if b then ns ++ n ∷ [] else (ns ++ n ∷ []) ++ n ∷ []) (ap (is_number n) there ∙ eq-eqb n n refl)
+    ap (λ (b : Bool). if b then ns ++ n ∷ [] else (ns ++ n ∷ []) ++ n ∷ []) (ap (λ (o : Option ℕ). option_map_or (λ m. nat_eq m n) o false) there ∙ eq-eqb n n refl)
 
 module _ {K : Type 0} (eq : K → K → Bool) where
   -- a look-up
@@ -180,6 +189,10 @@ module _ {K : Type 0} (eq : K → K → Bool) where
             let empty : old ≡ g.0 = o ∙ ap (λ (v : List Rows). get_or v place old) g.2 ∙ ap (λ (n : ℕ). get_or (rs ++ g.0 ∷ []) n old) there ∙ get_last rs g.0 old in
             subst (λ (x : List K × List Rows). IsPutUnder eq key row ks rs x.0 x.1) (λ i. (sym m i, sym left i))
             (put_new ks rs put l e (w ∙ ap (λ (v : Rows). with_last v.items row) empty ∙ ap (λ (ns : List ℕ). with_last ns row) g.1))
+
+  -- a key of those that are left is one of those that are done
+  pub key_is_done : (all left rest done : List K) (key : K) → all ≡ left ++ done → left ≡ rest ++ key ∷ [] → all ≡ rest ++ key ∷ done
+  key_is_done all left rest done key a l = a ∙ ap (λ (ks : List K). ks ++ done) l ∙ append_assoc rest (key ∷ []) done
 
   -- a row under one key more
   pub row_is_put_under_more : (done : List K) (key : K) (row : ℕ) (ks now next : List K) (rs rs_now rs_next : List Rows) → IsPutUnderEach eq done row ks rs now rs_now

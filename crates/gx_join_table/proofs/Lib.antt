@@ -1,3 +1,5 @@
 pub mod AscendingLemmas
 pub mod NumberLemmas
 pub mod IndexLemmas
+pub mod TableLemmas
+pub mod PublicLaws

@@ -2,3 +2,4 @@ pub mod Joining
 pub mod RowNumbers
 pub mod KeyIndex
 pub mod TableView
+pub mod Laws

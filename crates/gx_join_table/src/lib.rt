@@ -3,5 +3,6 @@
 
 pub mod join_table;
 mod key_index;
+pub mod laws;
 mod row_numbers;
 pub mod steps;

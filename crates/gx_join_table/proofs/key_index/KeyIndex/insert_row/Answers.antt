@@ -1,6 +1,6 @@
-use Rattle.std.proofs.Common.{◌≡◌, ◌++◌, [], ◌∷◌, ap, ◌∙◌, length, arith, append_assoc}
+use Rattle.std.proofs.Common.{◌≡◌, ◌++◌, [], ◌∷◌, ap, length, arith}
 use Rattle.std.proofs.lemmas.List.{length-append}
-use Rattle.gx_join_table.proofs.IndexLemmas.{row_is_put_under_more}
+use Rattle.gx_join_table.proofs.IndexLemmas.{key_is_done, row_is_put_under_more}
 use Rattle.gx_join_table.proofs.key_index.KeyIndex.insert_row.Goals as goal
 
 pub loop-key-preserved : goal.loop-key-preserved
@@ -10,7 +10,7 @@ loop-key-preserved g c =
       c.in_ok-insert.ensures.aligned,
       (
         c.in-Some.key ∷ so_far.0,
-        so_far.1 ∙ ap (λ ks. ks ++ so_far.0) taken ∙ append_assoc c.pop.new.self.items (c.in-Some.key ∷ []) so_far.0,
+        key_is_done g.K.PartialEq.eq c.args.keys.items c.loop-key.keys.items c.pop.new.self.items so_far.0 c.in-Some.key so_far.1 taken,
         row_is_put_under_more g.K.PartialEq.eq so_far.0 c.in-Some.key c.args.row c.args.self.now.keys.keys c.loop-key.self.keys.keys c.insert.new.self.keys.keys
             c.args.self.now.rows.items c.loop-key.self.rows.items c.insert.new.self.rows.items so_far.2 c.in_ok-insert.ensures.put,
       ),
