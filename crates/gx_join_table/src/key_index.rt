@@ -77,7 +77,7 @@ impl<K: Eq + Hash + Drop> KeyIndex<K> {
         ensures rows { result.now ≡ rows_under K.eq key.now self.now.keys.keys self.now.rows.items }
         ensures counted { steps.new ≡ steps.old + 1 }
     {
-        steps.tick();
+        steps.tick(); // the look-up
         match self.keys.get_index_of(key) {
             Some(place) => rows_at(self.rows.as_slice(), place),
             None => &[],
