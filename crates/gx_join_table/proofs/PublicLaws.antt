@@ -5,8 +5,9 @@ use Rattle.std.specs.Option.{option_map_or}
 use Rattle.std.proofs.lemmas.Bool.{eq-eqb}
 use Rattle.gx_atomic.specs.JoinKey.{same_key}
 use Rattle.gx_join_table.specs.Joining.{numbers_from, have_equal_keys}
-use Rattle.gx_join_table.specs.Laws.{RowsAreThoseThatMeet, ItemsFoundAreThoseThatMeet}
+use Rattle.gx_join_table.specs.Laws.{EqualKeysAreEqualValues, RowsAreThoseThatMeet, ItemsFoundAreThoseThatMeet}
 use Rattle.gx_join_table.proofs.AscendingLemmas.{differs, not_there}
+use Rattle.gx_join_table.proofs.Comparing.{equal_where_keys_are}
 use Rattle.gx_join_table.proofs.NumberLemmas.{numbers_ascend}
 
 -- the item at a place passes where its number is found
@@ -59,3 +60,6 @@ rows_are_those_that_meet = record {
 pub items_found_are_those_that_meet : {A : Type 0} → ItemsFoundAreThoseThatMeet A
 items_found_are_those_that_meet {A} = λ keys keys_of items.
     items_at_numbers (slice_get items) 0 (have_equal_keys same_key keys) keys_of items (λ place. ap (slice_get items) (let e : 0 + place ≡ place = omega arith in e))
+
+pub equal_keys_are_equal_values : EqualKeysAreEqualValues
+equal_keys_are_equal_values = equal_where_keys_are

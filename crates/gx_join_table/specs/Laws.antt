@@ -1,9 +1,13 @@
 -- The laws of the rows of a hash join.
-use Rattle.std.specs.Prelude.{◌≡◌, ℕ, false, List, map, filter, nat_eq, Some, slice_get}
-use Rattle.std.specs.List.{list_any}
+use Rattle.std.specs.Prelude.{◌≡◌, ℕ, true, false, List, map, filter, nat_eq, Some, Ok, slice_get}
+use Rattle.std.specs.List.{list_any, All}
 use Rattle.std.specs.Option.{option_map_or}
 use Rattle.gx_atomic.specs.declared.join_key.JoinKey.{JoinKey}
-use Rattle.gx_atomic.specs.JoinKey.{same_key}
+use Rattle.gx_facets.specs.declared.Atomic.{Atomic}
+use Rattle.gx_facets.specs.Value.{same_family}
+use Rattle.gx_atomic.specs.declared.comparison.Op.TheVariants.{Eq}
+use Rattle.gx_atomic.specs.Comparison.{general_comparison, pairs_of}
+use Rattle.gx_atomic.specs.JoinKey.{join_key_of, same_key}
 use Rattle.gx_join_table.specs.Joining.{have_equal_keys, rows_with_a_key}
 use Rattle.gx_join_table.specs.RowNumbers.{AscendFrom}
 
@@ -17,3 +21,8 @@ pub record RowsAreThoseThatMeet : Type 0 where
 abbrev pub ItemsFoundAreThoseThatMeet : Type 0 → Type 0
 ItemsFoundAreThoseThatMeet A = (keys : List JoinKey) (keys_of : A → List JoinKey) (items : List A)
     → map (slice_get items) (rows_with_a_key keys (map keys_of items)) ≡ map Some (filter (λ item. have_equal_keys same_key keys (keys_of item)) items)
+
+-- where each value is of one family with each of the other side, the general comparison `=` is whether two of their keys are equal
+abbrev pub EqualKeysAreEqualValues : Type 0
+EqualKeysAreEqualValues = (left right : List Atomic) → All (λ pair. same_family pair.0.value pair.1.value ≡ true) (pairs_of left right)
+    → general_comparison Eq left right ≡ Some (Ok (have_equal_keys same_key (map join_key_of left) (map join_key_of right)))

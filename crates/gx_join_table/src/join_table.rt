@@ -50,7 +50,8 @@ impl JoinTable {
         }
     }
 
-    /// Adds a row of the build side with its keys. Each key is one step.
+    /// Adds a row of the build side with its keys. Each insertion of a key is one step. Where memory does not suffice, the table has no
+    /// rows, or those that it had.
     pub fn add<L: Ledger>(
         &mut self,
         alloc: Global,
@@ -73,7 +74,7 @@ impl JoinTable {
     }
 
     /// The rows of the build side that have a key equal to one of the keys of an item of the probe side: their numbers, ascending and
-    /// each once. Each key is one step.
+    /// each once. Each look-up of a key is one step.
     pub fn rows<L: Ledger>(
         &self,
         alloc: Global,
