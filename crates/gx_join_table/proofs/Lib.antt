@@ -1,0 +1,6 @@
+pub mod AscendingLemmas
+pub mod NumberLemmas
+pub mod IndexLemmas
+pub mod TableLemmas
+pub mod Comparing
+pub mod PublicLaws

@@ -1,0 +1,5 @@
+pub mod Joining
+pub mod RowNumbers
+pub mod KeyIndex
+pub mod TableView
+pub mod Laws
