@@ -11,7 +11,7 @@ use Rattle.std.proofs.lemmas.List.{length-append, append-nil}
 use Rattle.indexmap.specs.IndexSet.{insert_key}
 use Rattle.gx_join_table.specs.Joining.{numbers_from}
 use Rattle.gx_join_table.specs.RowNumbers.{with_last}
-use Rattle.gx_join_table.specs.KeyIndex.{IsAligned, rows_at_place, rows_under, IsPutUnder, IsPutUnderEach, IsIndexOf}
+use Rattle.gx_join_table.specs.KeyIndex.{IsAligned, rows_at_place, rows_under, IsPutUnder, IsPutUnderEach, IsKeyIndexOf}
 use Rattle.gx_join_table.proofs.NumberLemmas.{numbers_with_one_more, numbers_are_below}
 
 abbrev Rows : Type 0
@@ -208,8 +208,8 @@ module _ {K : Type 0} (eq : K → K → Bool) where
       by_tests q below false c h = h
 
   -- the index of a table with one row more
-  pub index_has_row : (ks next : List K) (rs rs_next : List Rows) (table : List (List K)) (keys : List K) (row : ℕ) → IsIndexOf eq ks rs table → row ≡ length table
-      → IsAligned next rs_next → IsPutUnderEach eq keys row ks rs next rs_next → IsIndexOf eq next rs_next (table ++ keys ∷ [])
+  pub index_has_row : (ks next : List K) (rs rs_next : List Rows) (table : List (List K)) (keys : List K) (row : ℕ) → IsKeyIndexOf eq ks rs table → row ≡ length table
+      → IsAligned next rs_next → IsPutUnderEach eq keys row ks rs next rs_next → IsKeyIndexOf eq next rs_next (table ++ keys ∷ [])
   index_has_row ks next rs rs_next table keys row index r aligned each = record {
     aligned = aligned;
     found = λ q.

@@ -34,6 +34,6 @@ module _ {K : Type 0} (eq : K → K → Bool) where
       → rows_under q next_keys next_rows ≡ rows_under q keys rows ++ (if list_any (eq q) added then row ∷ [] else [])
 
   -- the rows under each key are those that have an equal key
-  pub record IsIndexOf (keys : List K) (rows : List (Vec ℕ Global)) (table : List (List K)) : Type 0 where
+  pub record IsKeyIndexOf (keys : List K) (rows : List (Vec ℕ Global)) (table : List (List K)) : Type 0 where
     pub aligned : IsAligned keys rows
     pub found : (q : K) → rows_under q keys rows ≡ numbers_from 0 (list_any (eq q)) table

@@ -31,12 +31,12 @@ impl Model for JoinTable {
     ghost coded = { Prim.hlevel (codes, join_keys.the_row.coded) };
 
     ghost use Rattle.gx_atomic.specs.JoinKey.{same_key};
-    ghost use Rattle.gx_join_table.specs.KeyIndex.{IsIndexOf};
+    ghost use Rattle.gx_join_table.specs.KeyIndex.{IsKeyIndexOf};
     ghost use Rattle.gx_join_table.specs.TableView.{keys_of_rows};
 
     ghost view = { λ table. keys_of_rows table.rows.items };
 
-    ghost invariant = { λ table. IsIndexOf same_key table.index.keys.keys table.index.rows.items (keys_of_rows table.rows.items) };
+    ghost invariant = { λ table. IsKeyIndexOf same_key table.index.keys.keys table.index.rows.items (keys_of_rows table.rows.items) };
 }
 
 impl JoinTable {
