@@ -1,0 +1,10 @@
+pub mod ListFacts
+pub mod GrownForests
+pub mod StayingOutcomes
+pub mod StayingItems
+pub mod StayingOperators
+pub mod StayingArguments
+pub mod StayingCalls
+pub mod StayingParts
+pub mod StayingExpressions
+pub mod PublicLaws
