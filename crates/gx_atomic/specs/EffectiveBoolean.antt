@@ -13,3 +13,8 @@ effective_boolean_value (Untyped text) = has_character text
 effective_boolean_value (Str text) = has_character text
 effective_boolean_value (Truth b) = b
 effective_boolean_value (Num n) = not (is_zero n)
+
+-- whether a value is a boolean
+abbrev pub is_boolean_value : AtomValue → Bool
+is_boolean_value (Truth b) = true
+is_boolean_value value = false

@@ -30,7 +30,7 @@ use Rattle.gx_funcs.specs.declared.function.Conversion.{Conversion}
 use Rattle.gx_funcs.specs.declared.function.Conversion.TheVariants.{Nothing, Data, DataAndCast}
 use Rattle.gx_funcs.specs.declared.value_function.ValueFunction.{ValueFunction}
 use Rattle.gx_funcs.specs.Values.{ValueAnswer, value_answer}
-use Rattle.gx_funcs.specs.Function.{ItemView, effective_boolean, string_of_items, one_answer, truth_atom, string_atom, applied, text_function_of, value_function_of, item_function_of, value_parameters_of, item_parameters_of, conversion_of}
+use Rattle.gx_funcs.specs.Function.{ItemView, effective_boolean, string_of_items, one_answer, truth_atom, boolean_atom, string_atom, applied, text_function_of, value_function_of, item_function_of, value_parameters_of, item_parameters_of, conversion_of}
 use Rattle.gx_model.specs.Forest.{Forest, PlainNode, then_found}
 use Rattle.gx_funcs.specs.declared.text_function.TextFunction.{TextFunction}
 use Rattle.gx_funcs.specs.Texts.{text_answer}
@@ -250,7 +250,7 @@ dynamic_call : (function : Function) (views : List (List ItemView)) (forest : Fo
     → IsDynamic (given (applied function views) (λ answer. answered answer forest))
 dynamic_call functions.True [] forest = tt
 dynamic_call functions.False [] forest = tt
-dynamic_call functions.Boolean (items ∷ []) forest = dynamic_answer (effective_boolean items) truth_atom forest
+dynamic_call functions.Boolean (items ∷ []) forest = dynamic_answer (effective_boolean items) (boolean_atom items) forest
 dynamic_call functions.Not (items ∷ []) forest = dynamic_answer (effective_boolean items) (λ truth. truth_atom (not truth)) forest
 dynamic_call functions.Count (items ∷ []) forest = tt
 dynamic_call functions.Empty (items ∷ []) forest = tt

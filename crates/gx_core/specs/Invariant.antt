@@ -103,11 +103,12 @@ HasValueOrType (Global name binder (Some value)) = Unit {0}
 HasValueOrType (Global name binder None) = IsTrue (is_some binder.kind)
 HasValueOrType (declarations.Function function) = All (λ (parameter : Binder). IsTrue (is_some parameter.kind)) function.parameters
 
--- the variables of a whole query
+-- the variables of a whole query; 0 is none of them
 pub record HasQueryVariablesInOrder (core : Core) : Type 0 where
   pub values : AreValuesScoped [] core.declarations
   pub body : IsScoped (scope_behind core.declarations []) core.body
   pub once : AreDistinct (declared_numbers core.declarations ++ numbers_bound core.body)
+  pub none : is_among (declared_numbers core.declarations ++ numbers_bound core.body) 0 ≡ false
   pub externals : All HasValueOrType core.declarations
 
 -- ---- literals, calls and cases

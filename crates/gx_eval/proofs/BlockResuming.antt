@@ -12,6 +12,7 @@ use Rattle.gx_sorting.specs.declared.keys.KeyOrder.{KeyOrder}
 use Rattle.gx_sorting.proofs.PublicLaws.{numbers_are_of_sorted_tuples}
 use Rattle.gx_model.specs.Forest.{Forest}
 use Rattle.gx_model.specs.Item.{Item, Items}
+use Rattle.gx_plan.specs.declared.plan.Carried.{Carried}
 use Rattle.gx_core.specs.declared.expression.Clause.{Clause}
 use Rattle.gx_core.specs.declared.expression.SortKey.{SortKey}
 use Rattle.gx_core.specs.declared.operator.ClauseKind.{ClauseKind}
@@ -21,12 +22,11 @@ use Rattle.gx_core.specs.Blocks.{Tuple, key_of, tuple_keys, tuples_of, tuples_of
 use Rattle.gx_core.specs.Comparing.{condition_of}
 use Rattle.gx_core.specs.Outcome.{Outcome, gives, raises, wrong, after, given}
 use Rattle.gx_core.specs.Meaning.{Bindings, Denotation, item_bound}
-use Rattle.gx_core.specs.Soundness.{TypedExpression}
+use Rattle.gx_plan.specs.Plan.{PlanExpression}
 use Rattle.gx_eval.specs.declared.evaluation.Pending.{Pending}
 use Rattle.gx_eval.specs.declared.bound.Bound.{Bound}
 use Rattle.gx_eval.specs.BoundItems.{bound_items, items_of}
 use Rattle.gx_eval.specs.FoundTuples.{Found, Stacks, Row, row_in, bound_in_turn, found_more, with_keys, with_found, with_sources, before_block, returned_for, numbers_in_order}
-use Rattle.gx_types.specs.SequenceType.{SequenceType}
 use Rattle.gx_eval.proofs.Outcomes.{after_after, same_after}
 
 -- ---- outcomes
@@ -163,7 +163,7 @@ found_again found ts us =
     λ i. record { keys = keys i; rows = rows i; numbers = found.numbers }
 
 -- the parts of clauses that are left, and what stands behind them
-keys_alone : (m : TypedExpression → Denotation) (keys : List (SortKey SequenceType)) (more : List Denotation) (bindings : Bindings) (forest : Forest)
+keys_alone : (m : PlanExpression → Denotation) (keys : List (SortKey Carried)) (more : List Denotation) (bindings : Bindings) (forest : Forest)
     → tuple_keys (map order_of_key keys) (map m (map part_of_key keys) ++ more) bindings forest ≡ tuple_keys (map order_of_key keys) (map (λ key. m (part_of_key key)) keys) bindings forest
 keys_alone m [] more bindings forest = refl
 keys_alone m (key ∷ keys) more bindings forest =
@@ -174,11 +174,11 @@ keys_alone m (key ∷ keys) more bindings forest =
     (λ k. after (tuple_keys (map order_of_key keys) (map (λ key. m (part_of_key key)) keys) bindings left) (λ ks last. gives (k ∷ ks) last))
     (λ k. ap (λ (o : Outcome (List (Option Atomic))). after o (λ ks last. gives (k ∷ ks) last)) (keys_alone m keys more bindings left)))
 
-behind_keys : (m : TypedExpression → Denotation) (keys : List (SortKey SequenceType)) (body : TypedExpression) → drop (length (map order_of_key keys)) (map m (map part_of_key keys ++ body ∷ [])) ≡ m body ∷ []
+behind_keys : (m : PlanExpression → Denotation) (keys : List (SortKey Carried)) (body : PlanExpression) → drop (length (map order_of_key keys)) (map m (map part_of_key keys ++ body ∷ [])) ≡ m body ∷ []
 behind_keys m [] body = refl
 behind_keys m (key ∷ keys) body = behind_keys m keys body
 
-behind_clauses : (m : TypedExpression → Denotation) (clauses : List (Clause SequenceType)) (keys : List (SortKey SequenceType)) (body : TypedExpression)
+behind_clauses : (m : PlanExpression → Denotation) (clauses : List (Clause Carried)) (keys : List (SortKey Carried)) (body : PlanExpression)
     → drop (length (map order_of_key keys)) (drop (length (map kind_of_clause clauses)) (map m (parts_of_block clauses keys body))) ≡ m body ∷ []
 behind_clauses m [] keys body = behind_keys m keys body
 behind_clauses m (clause ∷ clauses) keys body = behind_clauses m clauses keys body
@@ -186,7 +186,7 @@ behind_clauses m (clause ∷ clauses) keys body = behind_clauses m clauses keys 
 -- ---- a block
 
 -- the returns of the tuples that were found, by their numbers, come to those of the block
-pub block_opens : (m : TypedExpression → Denotation) (clauses : List (Clause SequenceType)) (keys : List (SortKey SequenceType)) (body : TypedExpression) (values : Items) (found : Found) (bindings : Bindings) (forest : Forest) (next : Items → Forest → Outcome Items)
+pub block_opens : (m : PlanExpression → Denotation) (clauses : List (Clause Carried)) (keys : List (SortKey Carried)) (body : PlanExpression) (values : Items) (found : Found) (bindings : Bindings) (forest : Forest) (next : Items → Forest → Outcome Items)
     → after (tuples_of (map kind_of_clause clauses) (map order_of_key keys) (map m (parts_of_block clauses keys body)) [] bindings forest)
     (λ ts left. after (returned_for (m body) bindings values (drop (length found.rows) (found.rows ++ map (λ t. t.bound) ts))
     (numbers_in_order (map order_of_key keys) (drop (length found.keys) (found.keys ++ flat_map (λ t. t.keys) ts)) (length (drop (length found.rows) (found.rows ++ map (λ t. t.bound) ts)))) left) next)
@@ -237,7 +237,7 @@ abbrev Rest : Type 0
 Rest = Items → Forest → Outcome Items
 
 -- the same where the tuples are taken away again
-pub block_opens_at : (m : TypedExpression → Denotation) (clauses : List (Clause SequenceType)) (keys : List (SortKey SequenceType)) (body : TypedExpression) (values : Items) (first_key first_row : ℕ) (stacks : Stacks) (bindings : Bindings) (forest : Forest) (next : Next)
+pub block_opens_at : (m : PlanExpression → Denotation) (clauses : List (Clause Carried)) (keys : List (SortKey Carried)) (body : PlanExpression) (values : Items) (first_key first_row : ℕ) (stacks : Stacks) (bindings : Bindings) (forest : Forest) (next : Next)
     → first_key ≡ length stacks.found.keys → first_row ≡ length stacks.found.rows
     → after (tuples_of (map kind_of_clause clauses) (map order_of_key keys) (map m (parts_of_block clauses keys body)) [] bindings forest)
     (λ ts left. after (returned_for (m body) bindings values (drop first_row (stacks.found.rows ++ map (λ t. t.bound) ts))
@@ -267,7 +267,7 @@ with_more next values stacks ts left = next values (with_found stacks (found_mor
 abbrev pub with_row : Found → Bindings → Found
 with_row found row = record { keys = found.keys; rows = found.rows ++ row ∷ []; numbers = found.numbers }
 
-walk_ends : (m : TypedExpression → Denotation) (keys : List (SortKey SequenceType)) (body : TypedExpression) (n : ℕ) (bindings : Bindings) (row : Bindings) (values : Items) (stacks : Stacks) (forest : Forest) (next : Next)
+walk_ends : (m : PlanExpression → Denotation) (keys : List (SortKey Carried)) (body : PlanExpression) (n : ℕ) (bindings : Bindings) (row : Bindings) (values : Items) (stacks : Stacks) (forest : Forest) (next : Next)
     → row ≡ take n bindings
     → after (tuple_keys (map order_of_key keys) (map (λ key. m (part_of_key key)) keys) bindings forest) (λ ks left. next values (with_found stacks (with_keys (with_row stacks.found row) ks)) left)
     ≡ after (tuples_of [] (map order_of_key keys) (map m (map part_of_key keys ++ body ∷ [])) (take n bindings) (drop n bindings) forest) (with_more next values stacks)
@@ -372,13 +372,13 @@ where_walks kinds orders parts part n inner bindings values first stacks forest 
     (λ xs left. ap (λ (k : ℕ). given (condition_of xs) (λ truth. tuples_if truth (inside k) left)) same)
 
 -- the tuple is found behind the last clause
-pub walk_ends_at : (m : TypedExpression → Denotation) (clauses : List (Clause SequenceType)) (keys : List (SortKey SequenceType)) (body : TypedExpression) (n : ℕ) (bindings : Bindings) (row : Bindings) (values : Items) (stacks : Stacks) (forest : Forest) (next : Next)
+pub walk_ends_at : (m : PlanExpression → Denotation) (clauses : List (Clause Carried)) (keys : List (SortKey Carried)) (body : PlanExpression) (n : ℕ) (bindings : Bindings) (row : Bindings) (values : Items) (stacks : Stacks) (forest : Forest) (next : Next)
     → clauses ≡ [] → row ≡ take n bindings
     → after (tuple_keys (map order_of_key keys) (map (λ key. m (part_of_key key)) keys) bindings forest) (λ ks left. next values (with_found stacks (with_keys (with_row stacks.found row) ks)) left)
     ≡ after (tuples_of (map kind_of_clause clauses) (map order_of_key keys) (map m (parts_of_block clauses keys body)) (take n bindings) (drop n bindings) forest) (with_more next values stacks)
 walk_ends_at m clauses keys body n bindings row values stacks forest next none e =
     walk_ends m keys body n bindings row values stacks forest next e
-    ∙ ap (λ (cs : List (Clause SequenceType)). after (tuples_of (map kind_of_clause cs) (map order_of_key keys) (map m (parts_of_block cs keys body)) (take n bindings) (drop n bindings) forest) (with_more next values stacks)) (sym none)
+    ∙ ap (λ (cs : List (Clause Carried)). after (tuples_of (map kind_of_clause cs) (map order_of_key keys) (map m (parts_of_block cs keys body)) (take n bindings) (drop n bindings) forest) (with_more next values stacks)) (sym none)
 
 -- ---- turns
 
@@ -471,21 +471,21 @@ keys_open order orders part parts bindings values first stacks forest next e =
     ∙ after_after (part bindings forest) (λ xs left. given (key_of xs) (λ key. after (tuple_keys orders parts bindings left) (λ ks last. gives (key ∷ ks) last))) put
 
 -- no key is left
-pub keys_end : (m : TypedExpression → Denotation) (keys : List (SortKey SequenceType)) (bindings : Bindings) (values : Items) (stacks : Stacks) (forest : Forest) (next : Next) → keys ≡ []
+pub keys_end : (m : PlanExpression → Denotation) (keys : List (SortKey Carried)) (bindings : Bindings) (values : Items) (stacks : Stacks) (forest : Forest) (next : Next) → keys ≡ []
     → next values stacks forest ≡ after (tuple_keys (map order_of_key keys) (map (λ key. m (part_of_key key)) keys) bindings forest) (λ ks left. next values (with_found stacks (with_keys stacks.found ks)) left)
 keys_end m keys bindings values stacks forest next e =
     let found : Found = stacks.found in
     ap (λ (l : List (Option Atomic)). next values (with_found stacks (record { keys = l; rows = found.rows; numbers = found.numbers })) forest) (sym (append-nil found.keys))
-    ∙ ap (λ (ks : List (SortKey SequenceType)). after (tuple_keys (map order_of_key ks) (map (λ key. m (part_of_key key)) ks) bindings forest) (λ l left. next values (with_found stacks (with_keys found l)) left)) (sym e)
+    ∙ ap (λ (ks : List (SortKey Carried)). after (tuple_keys (map order_of_key ks) (map (λ key. m (part_of_key key)) ks) bindings forest) (λ l left. next values (with_found stacks (with_keys found l)) left)) (sym e)
 
-pub keys_open_at : (m : TypedExpression → Denotation) (keys others : List (SortKey SequenceType)) (key : SortKey SequenceType) (bindings : Bindings) (values : Items) (first : ℕ) (stacks : Stacks) (forest : Forest) (next : Next) → keys ≡ key ∷ others → first ≡ length values
+pub keys_open_at : (m : PlanExpression → Denotation) (keys others : List (SortKey Carried)) (key : SortKey Carried) (bindings : Bindings) (values : Items) (first : ℕ) (stacks : Stacks) (forest : Forest) (next : Next) → keys ≡ key ∷ others → first ≡ length values
     → after (m (part_of_key key) bindings forest)
     (λ more left. given (key_of (drop first (values ++ more))) (λ one. after (tuple_keys (map order_of_key others) (map (λ other. m (part_of_key other)) others) bindings left)
     (λ ks last. next (take first (values ++ more)) (with_found (with_found stacks (with_keys stacks.found (one ∷ []))) (with_keys (with_keys stacks.found (one ∷ [])) ks)) last)))
     ≡ after (tuple_keys (map order_of_key keys) (map (λ other. m (part_of_key other)) keys) bindings forest) (λ ks left. next values (with_found stacks (with_keys stacks.found ks)) left)
 keys_open_at m keys others key bindings values first stacks forest next e h =
     keys_open (order_of_key key) (map order_of_key others) (m (part_of_key key)) (map (λ other. m (part_of_key other)) others) bindings values first stacks forest next h
-    ∙ ap (λ (ks : List (SortKey SequenceType)). after (tuple_keys (map order_of_key ks) (map (λ other. m (part_of_key other)) ks) bindings forest) (λ l left. next values (with_found stacks (with_keys stacks.found l)) left)) (sym e)
+    ∙ ap (λ (ks : List (SortKey Carried)). after (tuple_keys (map order_of_key ks) (map (λ other. m (part_of_key other)) ks) bindings forest) (λ l left. next values (with_found stacks (with_keys stacks.found l)) left)) (sym e)
 
 pub key_taken : (found : Option (Option Atomic)) (key : Option Atomic) (values : Items) (stacks : Stacks) (forest : Forest) (next : Next) → found ≡ Some key
     → next values (with_found stacks (with_keys stacks.found (key ∷ []))) forest ≡ given found (λ k. next values (with_found stacks (with_keys stacks.found (k ∷ []))) forest)

@@ -7,7 +7,7 @@ use Rattle.gx_types.specs.SchemaSet.{SchemaSet}
 use Rattle.gx_model.specs.Forest.{Forest}
 use Rattle.gx_model.specs.Item.{Items}
 use Rattle.gx_core.specs.declared.signature.FunctionSignature.{FunctionSignature}
-use Rattle.gx_core.specs.Queries.{TypedFunction}
+use Rattle.gx_plan.specs.Plan.{FunctionOfPlan}
 use Rattle.gx_core.specs.Converting.{converted, arguments_converted}
 use Rattle.gx_core.specs.declared.expression.Binder.{Binder}
 use Rattle.gx_core.specs.Functions.{arguments_bound, calls_over}
@@ -23,7 +23,7 @@ use Rattle.gx_core.proofs.CallLemmas.{calls_end, calls_go_on}
 use Rattle.gx_eval.proofs.Resuming.{fails_through}
 
 -- a failure of the innermost call is that of the whole
-pub frames_fail : (s : SchemaSet) (functions : List TypedFunction) (globals : Bindings) (later : Forest) (frames : List Frame) (e : Failure) (o : Outcome Items)
+pub frames_fail : (s : SchemaSet) (functions : List FunctionOfPlan) (globals : Bindings) (later : Forest) (frames : List Frame) (e : Failure) (o : Outcome Items)
     → FailsSo e o → FailsSo e (frames_resumed s functions globals later frames o)
 frames_fail s functions globals later [] e o h = h
 frames_fail s functions globals later (frame ∷ frames) e o h =
@@ -46,24 +46,24 @@ call_fails s calls signature count operands rest forest next e h =
 
 -- ---- a call of a function
 
-pub call_goes_on : (s : SchemaSet) (functions : List TypedFunction) (globals : Bindings) (now left : ℕ) (signature : FunctionSignature) (values : List Items) (forest : Forest) (f : TypedFunction)
+pub call_goes_on : (s : SchemaSet) (functions : List FunctionOfPlan) (globals : Bindings) (now left : ℕ) (signature : FunctionSignature) (values : List Items) (forest : Forest) (f : FunctionOfPlan)
     → now ≡ suc left → slice_get functions signature.number ≡ Some f → function_called s functions globals left values forest f ≡ calls_over s functions globals now signature values forest
 call_goes_on s functions globals now left signature values forest f e h =
     sym (ap (λ (n : ℕ). calls_over s functions globals n signature values forest) e
     ∙ calls_go_on s functions globals left signature values forest
-    ∙ ap (λ (o : Option TypedFunction). given o (function_called s functions globals left values forest)) h)
+    ∙ ap (λ (o : Option FunctionOfPlan). given o (function_called s functions globals left values forest)) h)
 
-pub call_ends : (s : SchemaSet) (functions : List TypedFunction) (globals : Bindings) (now : ℕ) (signature : FunctionSignature) (values : List Items) (forest : Forest)
+pub call_ends : (s : SchemaSet) (functions : List FunctionOfPlan) (globals : Bindings) (now : ℕ) (signature : FunctionSignature) (values : List Items) (forest : Forest)
     → now ≡ zero → calls_over s functions globals now signature values forest ≡ raises GLXD0001
 call_ends s functions globals now signature values forest e =
     ap (λ (n : ℕ). calls_over s functions globals n signature values forest) e ∙ calls_end s functions globals signature values forest
 
-pub call_is_wrong : (s : SchemaSet) (functions : List TypedFunction) (globals : Bindings) (now left : ℕ) (signature : FunctionSignature) (values : List Items) (forest : Forest)
+pub call_is_wrong : (s : SchemaSet) (functions : List FunctionOfPlan) (globals : Bindings) (now left : ℕ) (signature : FunctionSignature) (values : List Items) (forest : Forest)
     → now ≡ suc left → slice_get functions signature.number ≡ None → calls_over s functions globals now signature values forest ≡ wrong
 call_is_wrong s functions globals now left signature values forest e h =
     ap (λ (n : ℕ). calls_over s functions globals n signature values forest) e
     ∙ calls_go_on s functions globals left signature values forest
-    ∙ ap (λ (o : Option TypedFunction). given o (function_called s functions globals left values forest)) h
+    ∙ ap (λ (o : Option FunctionOfPlan). given o (function_called s functions globals left values forest)) h
 
 -- ---- parameters
 
@@ -83,12 +83,12 @@ last_bound (q ∷ parameters) (w ∷ values) p v bindings e = ap (λ (bs : Bindi
 
 -- ---- a piece of work of the innermost call
 
-pub frames_follow : {T E : Type 0} (r : Result T E) (s : SchemaSet) (functions : List TypedFunction) (globals : Bindings) (later : Forest) (frames : List Frame) (o p : Outcome Items)
+pub frames_follow : {T E : Type 0} (r : Result T E) (s : SchemaSet) (functions : List FunctionOfPlan) (globals : Bindings) (later : Forest) (frames : List Frame) (o p : Outcome Items)
     → OnOk r (o ≡ p) → OnOk r (frames_resumed s functions globals later frames o ≡ frames_resumed s functions globals later frames p)
 frames_follow (Ok x) s functions globals later frames o p h = ap (frames_resumed s functions globals later frames) h
 frames_follow (Err e) s functions globals later frames o p h = h
 
-pub failure_follows : {T : Type 0} (r : Result T Failure) (s : SchemaSet) (functions : List TypedFunction) (globals : Bindings) (later : Forest) (frames : List Frame) (o : Outcome Items)
+pub failure_follows : {T : Type 0} (r : Result T Failure) (s : SchemaSet) (functions : List FunctionOfPlan) (globals : Bindings) (later : Forest) (frames : List Frame) (o : Outcome Items)
     → IfErr r (λ e. FailsSo e o) → IfErr r (λ e. FailsSo e (frames_resumed s functions globals later frames o))
 failure_follows (Ok x) s functions globals later frames o h = h
 failure_follows (Err e) s functions globals later frames o h = frames_fail s functions globals later frames e o h

@@ -14,7 +14,7 @@ use Rattle.gx_atomic.specs.Cast.{Casts, code_of}
 use Rattle.gx_atomic.specs.Comparison.{Decision, general_comparison}
 use Rattle.gx_atomic.proofs.PublicLaws.{empty_lists_compare_false}
 use Rattle.gx_funcs.specs.declared.function.Function.TheVariants as functions
-use Rattle.gx_funcs.specs.Function.{string_of_items, effective_boolean, one_answer, string_atom, truth_atom}
+use Rattle.gx_funcs.specs.Function.{string_of_items, effective_boolean, one_answer, boolean_atom, string_atom, truth_atom}
 use Rattle.gx_model.specs.Forest.{Forest, PlainNode}
 use Rattle.gx_model.specs.Item.{Item, atom, node, Items, atoms}
 use Rattle.gx_core.specs.Outcome.{Outcome, gives, wrong, given}
@@ -165,12 +165,12 @@ the_single {A = A} (y ∷ []) x l e = ap (λ (z : A). z ∷ []) (sym e)
 the_single (y ∷ z ∷ xs) x l e = absurd (omega (arith, l))
 
 -- what `boolean` and `not` answer
-pub boolean_called : (s : SchemaSet) (forest : Forest) (xs : Items) (truth : Bool) (a : Atomic) → effective_boolean (views_of forest xs) ≡ Some truth → a ≡ truth_atom truth → called s functions.Boolean (xs ∷ []) forest ≡ gives (atom a ∷ []) forest
+pub boolean_called : (s : SchemaSet) (forest : Forest) (xs : Items) (truth : Bool) (a : Atomic) → effective_boolean (views_of forest xs) ≡ Some truth → a ≡ boolean_atom (views_of forest xs) truth → called s functions.Boolean (xs ∷ []) forest ≡ gives (atom a ∷ []) forest
 boolean_called s forest xs truth a e f =
-    ap (λ (o : Option Bool). given (option_map (λ t. one_answer (truth_atom t)) o) (λ answer. answered answer forest)) e ∙ ap (λ (b : Atomic). gives (atom b ∷ []) forest) (sym f)
+    ap (λ (o : Option Bool). given (option_map (λ t. one_answer (boolean_atom (views_of forest xs) t)) o) (λ answer. answered answer forest)) e ∙ ap (λ (b : Atomic). gives (atom b ∷ []) forest) (sym f)
 
 pub no_boolean : (s : SchemaSet) (forest : Forest) (xs : Items) → effective_boolean (views_of forest xs) ≡ None → called s functions.Boolean (xs ∷ []) forest ≡ wrong
-no_boolean s forest xs e = ap (λ (o : Option Bool). given (option_map (λ t. one_answer (truth_atom t)) o) (λ answer. answered answer forest)) e
+no_boolean s forest xs e = ap (λ (o : Option Bool). given (option_map (λ t. one_answer (boolean_atom (views_of forest xs) t)) o) (λ answer. answered answer forest)) e
 
 pub contrary_called : (s : SchemaSet) (forest : Forest) (xs : Items) (truth : Bool) (a : Atomic) → effective_boolean (views_of forest xs) ≡ Some truth → a ≡ truth_atom (not truth) → called s functions.Not (xs ∷ []) forest ≡ gives (atom a ∷ []) forest
 contrary_called s forest xs truth a e f =

@@ -22,7 +22,7 @@ use Rattle.gx_core.specs.Outcome.{Outcome, gives, raises, wrong, after, given}
 use Rattle.gx_core.specs.BinaryOperators.{class_of}
 use Rattle.gx_core.specs.Comparing.{truth_value, condition_of}
 use Rattle.gx_core.specs.Calling.{views_of, answered, called_as, called}
-use Rattle.gx_core.specs.Soundness.{TypedExpression}
+use Rattle.gx_plan.specs.Plan.{PlanExpression}
 use Rattle.gx_core.specs.Expression.{all_parts}
 use Rattle.gx_core.specs.Meaning.{Context, Bindings, Denotation, binary_meaning, acts, all_of, branch, switched, denoted, for_each, decides, any_decides, meaning, meanings}
 use Rattle.gx_eval.specs.declared.failure.Failure.{Failure}
@@ -132,11 +132,11 @@ pub answer_behind : (o : Outcome Items) (forest : Forest) (values answer : Items
 answer_behind o forest values answer next e = goes_behind o values answer forest next e
 
 -- the right operand at hand
-pub right_is : (k : Context) (forest : Forest) (operator : BinaryOp) (right : TypedExpression) (values ys : Items) (first : ℕ) (bindings : Bindings) → meaning k right bindings forest ≡ gives ys forest
+pub right_is : (k : Context) (forest : Forest) (operator : BinaryOp) (right : PlanExpression) (values ys : Items) (first : ℕ) (bindings : Bindings) → meaning k right bindings forest ≡ gives ys forest
     → right_meaning k operator first right values bindings forest ≡ binary_meaning (class_of operator) (drop first values) ys forest
 right_is k forest operator right values ys first bindings e = ap (λ (o : Outcome Items). after o (λ zs left. acts k (operators.Binary operator) (drop first values ∷ zs ∷ []) left)) e
 
-pub right_at_once : (k : Context) (forest : Forest) (operator : BinaryOp) (right : TypedExpression) (work : List Pending) (values answer : Items) (first : ℕ) (stacks : Stacks) (bindings : Bindings)
+pub right_at_once : (k : Context) (forest : Forest) (operator : BinaryOp) (right : PlanExpression) (work : List Pending) (values answer : Items) (first : ℕ) (stacks : Stacks) (bindings : Bindings)
     → right_meaning k operator first right values bindings forest ≡ gives answer forest
     → resume k work (take first values ++ answer) stacks bindings forest
     ≡ after (meaning k right bindings forest) (λ ys left. operated k (operators.Binary operator) (drop first values ∷ ys ∷ []) (take first values) left (λ vs last. resume k work vs stacks bindings last))
@@ -181,7 +181,7 @@ change_opens k forest operator operand work values first stacks bindings h =
     ∙ ap (λ (o : Outcome Items). after o (λ more left. resume k work (values ++ more) stacks bindings left)) (sym (change_denoted k operator operand bindings forest))
 
 -- the right operand behind the left one
-pub right_opens : (k : Context) (forest : Forest) (operator : BinaryOp) (right : TypedExpression) (work : List Pending) (values : Items) (first second : ℕ) (stacks : Stacks) (bindings : Bindings) → second ≡ length values
+pub right_opens : (k : Context) (forest : Forest) (operator : BinaryOp) (right : PlanExpression) (work : List Pending) (values : Items) (first second : ℕ) (stacks : Stacks) (bindings : Bindings) → second ≡ length values
     → after (meaning k right bindings forest) (λ ys f. resume k (Binary operator first second ∷ work) (values ++ ys) stacks bindings f)
     ≡ after (meaning k right bindings forest) (λ ys left. operated k (operators.Binary operator) (drop first values ∷ ys ∷ []) (take first values) left (λ vs last. resume k work vs stacks bindings last))
 right_opens k forest operator right work values first second stacks bindings h =
@@ -314,7 +314,7 @@ last_in_order (p ∷ parts) part next values marks bindings forest =
     (λ more left. in_order parts (λ vs ms bs f. after (part bs f) (λ more left. next (vs ++ more) (length vs ∷ ms) bs left)) (values ++ more) (length values ∷ marks) bindings left)
     (λ x f. last_in_order parts part next (values ++ x) (length values ∷ marks) bindings f)
 
-pub each_argument : (k : Context) (es : List TypedExpression) → meanings k (all_parts es) ≡ map (meaning k) es
+pub each_argument : (k : Context) (es : List PlanExpression) → meanings k (all_parts es) ≡ map (meaning k) es
 each_argument k [] = refl
 each_argument k (e ∷ es) = ap (λ ds. meaning k e ∷ ds) (each_argument k es)
 
@@ -401,34 +401,34 @@ switch_opens k forest operand chosen work values first stacks bindings h =
     opened wrong = refl
 
 -- the branch that a switch chooses
-pub first_case : (k : Context) (forest : Forest) (default : ℕ) (cases rest : List TypeCase) (case : TypeCase) (branches others : List TypedExpression) (branch : TypedExpression) (xs : Items) (bindings : Bindings) (next : Rest)
+pub first_case : (k : Context) (forest : Forest) (default : ℕ) (cases rest : List TypeCase) (case : TypeCase) (branches others : List PlanExpression) (branch : PlanExpression) (xs : Items) (bindings : Bindings) (next : Rest)
     → cases ≡ case ∷ rest → branches ≡ branch ∷ others → is_instance k.schemas forest case.kind xs ≡ true
     → after (meaning k branch (position_bound case.variable xs ++ bindings) forest) next ≡ after (switched k.schemas cases default (map (meaning k) branches) xs bindings forest) next
 first_case k forest default cases rest case branches others branch xs bindings next e f h =
     sym (ap (λ (cs : List TypeCase). after (switched k.schemas cs default (map (meaning k) branches) xs bindings forest) next) e
-    ∙ ap (λ (bs : List TypedExpression). after (switched k.schemas (case ∷ rest) default (map (meaning k) bs) xs bindings forest) next) f
+    ∙ ap (λ (bs : List PlanExpression). after (switched k.schemas (case ∷ rest) default (map (meaning k) bs) xs bindings forest) next) f
     ∙ ap (λ (b : Bool). after (if b then meaning k branch (position_bound case.variable xs ++ bindings) forest else switched k.schemas rest default (map (meaning k) others) xs bindings forest) next) h)
 
-pub later_case : (k : Context) (forest : Forest) (default : ℕ) (cases rest : List TypeCase) (case : TypeCase) (branches others : List TypedExpression) (branch : TypedExpression) (xs : Items) (bindings : Bindings) (next : Rest)
+pub later_case : (k : Context) (forest : Forest) (default : ℕ) (cases rest : List TypeCase) (case : TypeCase) (branches others : List PlanExpression) (branch : PlanExpression) (xs : Items) (bindings : Bindings) (next : Rest)
     → cases ≡ case ∷ rest → branches ≡ branch ∷ others → is_instance k.schemas forest case.kind xs ≡ false
     → after (switched k.schemas rest default (map (meaning k) others) xs bindings forest) next ≡ after (switched k.schemas cases default (map (meaning k) branches) xs bindings forest) next
 later_case k forest default cases rest case branches others branch xs bindings next e f h =
     sym (ap (λ (cs : List TypeCase). after (switched k.schemas cs default (map (meaning k) branches) xs bindings forest) next) e
-    ∙ ap (λ (bs : List TypedExpression). after (switched k.schemas (case ∷ rest) default (map (meaning k) bs) xs bindings forest) next) f
+    ∙ ap (λ (bs : List PlanExpression). after (switched k.schemas (case ∷ rest) default (map (meaning k) bs) xs bindings forest) next) f
     ∙ ap (λ (b : Bool). after (if b then meaning k branch (position_bound case.variable xs ++ bindings) forest else switched k.schemas rest default (map (meaning k) others) xs bindings forest) next) h)
 
-pub no_case : (k : Context) (forest : Forest) (default : ℕ) (cases : List TypeCase) (branches others : List TypedExpression) (branch : TypedExpression) (xs : Items) (bindings : Bindings) (next : Rest)
+pub no_case : (k : Context) (forest : Forest) (default : ℕ) (cases : List TypeCase) (branches others : List PlanExpression) (branch : PlanExpression) (xs : Items) (bindings : Bindings) (next : Rest)
     → cases ≡ [] → branches ≡ branch ∷ others → others ≡ []
     → after (meaning k branch (position_bound default xs ++ bindings) forest) next ≡ after (switched k.schemas cases default (map (meaning k) branches) xs bindings forest) next
 no_case k forest default cases branches others branch xs bindings next e f h =
     sym (ap (λ (cs : List TypeCase). after (switched k.schemas cs default (map (meaning k) branches) xs bindings forest) next) e
-    ∙ ap (λ (bs : List TypedExpression). after (switched k.schemas [] default (map (meaning k) bs) xs bindings forest) next) f
-    ∙ ap (λ (bs : List TypedExpression). after (switched k.schemas [] default (meaning k branch ∷ map (meaning k) bs) xs bindings forest) next) h)
+    ∙ ap (λ (bs : List PlanExpression). after (switched k.schemas [] default (map (meaning k) bs) xs bindings forest) next) f
+    ∙ ap (λ (bs : List PlanExpression). after (switched k.schemas [] default (meaning k branch ∷ map (meaning k) bs) xs bindings forest) next) h)
 
-pub no_branch : (k : Context) (forest : Forest) (default : ℕ) (cases : List TypeCase) (branches : List TypedExpression) (xs : Items) (bindings : Bindings) (next : Rest)
+pub no_branch : (k : Context) (forest : Forest) (default : ℕ) (cases : List TypeCase) (branches : List PlanExpression) (xs : Items) (bindings : Bindings) (next : Rest)
     → branches ≡ [] → after (switched k.schemas cases default (map (meaning k) branches) xs bindings forest) next ≡ wrong
 no_branch k forest default cases branches xs bindings next f =
-    ap (λ (bs : List TypedExpression). after (switched k.schemas cases default (map (meaning k) bs) xs bindings forest) next) f ∙ none_left cases
+    ap (λ (bs : List PlanExpression). after (switched k.schemas cases default (map (meaning k) bs) xs bindings forest) next) f ∙ none_left cases
   where
     none_left : (cs : List TypeCase) → after (switched k.schemas cs default [] xs bindings forest) next ≡ wrong
     none_left [] = refl

@@ -10,7 +10,7 @@ use Rattle.gx_core.specs.Bindings.{position_bound}
 use Rattle.gx_core.specs.Comparing.{truth_value, condition_of}
 use Rattle.gx_core.specs.Outcome.{Outcome, gives, wrong, after, given}
 use Rattle.gx_core.specs.Meaning.{CallOutcomes, Context, Bindings, Denotation, acts, branch, switched, for_each, item_bound, decides, any_decides, meaning}
-use Rattle.gx_core.specs.Soundness.{TypedExpression}
+use Rattle.gx_plan.specs.Plan.{PlanExpression}
 use Rattle.gx_core.specs.PathLaws.{stepped_from_each}
 use Rattle.gx_store.specs.Items.{items_in}
 pub use Rattle.gx_eval.specs.BoundItems.{items_of}
@@ -39,7 +39,7 @@ abbrev pub changed : Context → Operator → (first : ℕ) → (values : Items)
 changed k operator first values forest = after (acts k operator (drop first values ∷ []) forest) (λ more left. gives (take first values ++ more) left)
 
 -- what an operator makes of the values from a number of them on and of its right operand
-abbrev pub right_meaning : Context → BinaryOp → (first : ℕ) → TypedExpression → (values : Items) → Bindings → Forest → Outcome Items
+abbrev pub right_meaning : Context → BinaryOp → (first : ℕ) → PlanExpression → (values : Items) → Bindings → Forest → Outcome Items
 right_meaning k operator first right values bindings forest =
     after (meaning k right bindings forest) (λ ys left. acts k (operators.Binary operator) (drop first values ∷ ys ∷ []) left)
 
@@ -63,7 +63,7 @@ abbrev pub item_tested : Denotation → (variable : ℕ) → Bindings → Item �
 item_tested test variable bindings item forest = test ((variable, item ∷ []) ∷ bindings) forest
 
 -- what a search over the items of a source comes to
-abbrev pub search_meaning : Context → (decisive : Bool) → (variable : ℕ) → (source test : TypedExpression) → Denotation
+abbrev pub search_meaning : Context → (decisive : Bool) → (variable : ℕ) → (source test : PlanExpression) → Denotation
 search_meaning k decisive variable source test bindings forest =
     after (meaning k source bindings forest) (λ xs left. any_decides decisive (item_tested (meaning k test) variable bindings) xs left)
 
@@ -150,13 +150,13 @@ outcome_behind k later part evaluation =
     after part (λ more left. resume k evaluation.work (items_in later evaluation.values.items ++ more) (stacks_of later evaluation) (items_of later evaluation.scope) left)
 
 -- with a part that comes next, and a piece of work behind it
-abbrev pub outcome_then : Context → (forest later : Forest) → TypedExpression → Pending → Evaluation → Outcome Items
+abbrev pub outcome_then : Context → (forest later : Forest) → PlanExpression → Pending → Evaluation → Outcome Items
 outcome_then k forest later part behind evaluation =
     after (meaning k part (items_of later evaluation.scope) forest)
     (λ more left. resume k (behind ∷ evaluation.work) (items_in later evaluation.values.items ++ more) (stacks_of later evaluation) (items_of later evaluation.scope) left)
 
 -- with a branch that comes next, whose variable is bound to the values from a number of them on, where it has one
-abbrev pub branch_outcome : Context → (forest later : Forest) → (first variable : ℕ) → TypedExpression → Evaluation → Outcome Items
+abbrev pub branch_outcome : Context → (forest later : Forest) → (first variable : ℕ) → PlanExpression → Evaluation → Outcome Items
 branch_outcome k forest later first variable branch evaluation =
     after (meaning k branch (position_bound variable (drop first (items_in later evaluation.values.items)) ++ items_of later evaluation.scope) forest)
     (λ more left. resume k evaluation.work (take first (items_in later evaluation.values.items) ++ more) (stacks_of later evaluation) (items_of later evaluation.scope) left)

@@ -9,10 +9,10 @@ use Rattle.gx_core.specs.declared.operator.Operator.TheVariants.{Order}
 use Rattle.gx_core.specs.Meaning.{Context, Bindings, denoted, meaning}
 use Rattle.gx_core.specs.Outcome.{gives, given}
 use Rattle.gx_core.specs.Paths.{stepped}
-use Rattle.gx_core.specs.Soundness.{TypedExpression}
+use Rattle.gx_plan.specs.Plan.{PlanExpression}
 
 -- in document order a path gives what a step gives from the node of a variable
-abbrev pub IsStepFrom : (number : ℕ) → Axis → Test → TypedExpression → Type 0
+abbrev pub IsStepFrom : (number : ℕ) → Axis → Test → PlanExpression → Type 0
 IsStepFrom number axis asks path =
     (k : Context) (bindings : Bindings) (forest : Forest) (found : Items) → given (look_up bindings number) (λ xs. stepped k.schemas axis asks xs forest) ≡ gives found forest
     → denoted k Order (meaning k path ∷ []) bindings forest ≡ gives found forest

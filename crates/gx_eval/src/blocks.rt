@@ -20,17 +20,18 @@ use crate::failure::Failure;
 use crate::looping::{bind_item, unbind_item};
 use crate::operand::{condition_of, count_of, cut_off, move_from, values_from};
 use crate::tuples::{bind_row, elements_from, innermost, key_of, numbers_in_order, row_at};
-use gx_core::expression::{Clause, TypedClause, TypedExpr, TypedKey};
+use gx_core::expression::Clause;
+use gx_plan::plan::{PlanClause, PlanExpr, PlanKey};
 use std::alloc::{AllocError, Global};
 
 // What is left of a block.
 #[derive(Clone, Copy)]
 pub(crate) struct BlockRest<'a> {
     // The clauses that are left, and the keys.
-    pub(crate) clauses: &'a [TypedClause],
-    pub(crate) keys: &'a [TypedKey],
+    pub(crate) clauses: &'a [PlanClause],
+    pub(crate) keys: &'a [PlanKey],
     // What is returned.
-    pub(crate) body: &'a TypedExpr,
+    pub(crate) body: &'a PlanExpr,
     // How many innermost bindings are those of the clauses before.
     pub(crate) bound: usize,
 }
@@ -82,9 +83,9 @@ impl<'a> Evaluation<'a> {
     // Puts the clauses of a block to the work, and the sorting of what they find.
     pub(crate) fn open_block(
         &mut self,
-        clauses: &'a [TypedClause],
-        keys: &'a [TypedKey],
-        body: &'a TypedExpr,
+        clauses: &'a [PlanClause],
+        keys: &'a [PlanKey],
+        body: &'a PlanExpr,
     ) -> Result<(), AllocError>
         ensures { (k : Context) (forest later : PlainForest) → OnOk result (outcome_of k forest later self.new
             ≡ outcome_behind k later (denoted k (operators.Block (map kind_of_clause clauses.now) (map order_of_key keys.now)) (map (meaning k) (parts_of_block clauses.now keys.now body.now)) (items_of later self.old.scope) forest) self.old) }
@@ -360,7 +361,7 @@ impl<'a> Evaluation<'a> {
 }
 
 // How many innermost bindings are those of clauses, where so many are those of the clauses before the last one.
-fn bound_behind(clause: &TypedClause, before: usize) -> Result<usize, AllocError>
+fn bound_behind(clause: &PlanClause, before: usize) -> Result<usize, AllocError>
     ensures { IfOk result (λ bound. bound ≡ before + length (clause_numbers_bound (kind_of_clause clause.now))) }
 {
     match before.checked_add(bound_by(clause)) {
@@ -370,7 +371,7 @@ fn bound_behind(clause: &TypedClause, before: usize) -> Result<usize, AllocError
 }
 
 // How many variables a clause binds.
-fn bound_by(clause: &TypedClause) -> usize
+fn bound_by(clause: &PlanClause) -> usize
     ensures { result ≡ length (clause_numbers_bound (kind_of_clause clause.now)) }
 {
     match clause {

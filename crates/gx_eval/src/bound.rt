@@ -11,7 +11,8 @@ ghost use Rattle.gx_eval.specs.declared.evaluation.Pending.TheVariants as work;
 
 use crate::evaluation::{Evaluation, Pending};
 use crate::operand::{count_of, pop_only, split_at};
-use gx_core::expression::{Binder, TypedExpr};
+use gx_core::expression::Binder;
+use gx_plan::plan::PlanExpr;
 use gx_store::item::Item;
 use std::alloc::{AllocError, Global};
 use std::rc::Rc;
@@ -65,8 +66,8 @@ impl<'a> Evaluation<'a> {
     pub(crate) fn open_let(
         &mut self,
         binder: &'a Binder,
-        value: &'a TypedExpr,
-        body: &'a TypedExpr,
+        value: &'a PlanExpr,
+        body: &'a PlanExpr,
     ) -> Result<(), AllocError>
         ensures { (k : Context) (forest later : PlainForest) → OnOk result (outcome_of k forest later self.new
             ≡ outcome_behind k later (denoted k (operators.Let binder.now) (meaning k value.now ∷ meaning k body.now ∷ []) (items_of later self.old.scope) forest) self.old) }
@@ -81,7 +82,7 @@ impl<'a> Evaluation<'a> {
         alloc: Global,
         variable: u32,
         first: usize,
-        body: &'a TypedExpr,
+        body: &'a PlanExpr,
     ) -> Result<(), AllocError>
         ensures { (k : Context) (forest later : PlainForest) → OnOk result (outcome_of k forest later self.new ≡ outcome_with k forest later (work.Bind variable first body.entry) self.old) }
     {

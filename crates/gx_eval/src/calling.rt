@@ -1,7 +1,9 @@
 // Calls of built-in functions.
 
-ghost use Rattle.std.specs.Prelude.{◌≡◌, ◌∷◌, [], IfOk, IfErr, ◌≤◌, length, map, OnOk, List, Some};
-ghost use Rattle.gx_funcs.specs.Function.{effective_boolean as boolean_of_views, string_of_item as string_of_view, string_of_items as string_of_views};
+ghost use Rattle.std.specs.Prelude.{◌≡◌, if◌then◌else◌, ◌∷◌, [], IfOk, IfErr, ◌≤◌, length, map, OnOk, List, Some};
+ghost use Rattle.gx_funcs.specs.declared.function.Function.TheVariants as functions;
+ghost use Rattle.gx_funcs.specs.Function.{effective_boolean as boolean_of_views, boolean_atom as boolean_of_truth, truth_atom, string_of_item as string_of_view, string_of_items as string_of_views};
+ghost use Rattle.gx_atomic.specs.EffectiveBoolean.{is_boolean_value};
 ghost use Rattle.gx_model.specs.Forest.{Forest as PlainForest};
 ghost use Rattle.gx_model.specs.Growth.{Extends};
 ghost use Rattle.gx_types.specs.SchemaSet.{SchemaSet};
@@ -29,11 +31,11 @@ use crate::single::Single;
 use crate::value_calling::{called_with_value, called_with_values};
 use gx_atomic::effective_boolean_value;
 use gx_base::text::Text;
-use gx_core::expression::TypedExpr;
-use gx_facets::print_value;
+use gx_facets::{AtomValue, Atomic, print_value};
 use gx_funcs::function::{Function, apply_to_none, integer_atom, string_atom, truth_atom};
 use gx_funcs::text_function::TextFunction;
 use gx_funcs::texts::apply_to_texts;
+use gx_plan::plan::PlanExpr;
 use gx_store::item::Item;
 use gx_store::store::Store;
 use gx_types::schemas::Schemas;
@@ -73,10 +75,7 @@ pub(crate) fn called_with_one(
     ensures failed { (later : PlainForest) → Extends store.now later → IfErr result (λ e. FailsSo e (called schemas.now function (items_in later argument.now ∷ []) store.now)) }
 {
     match function {
-        Function::Boolean => match effective_boolean(argument) {
-            Some(truth) => Ok(Answer::One(truth_atom(truth))),
-            None => Err(Failure::Wrong),
-        },
+        Function::Boolean => boolean_answer(argument),
         Function::Not => match effective_boolean(argument) {
             Some(truth) => Ok(Answer::One(truth_atom(!truth))),
             None => Err(Failure::Wrong),
@@ -258,6 +257,41 @@ fn effective_boolean(items: &[Item]) -> Option<bool>
     }
 }
 
+// What `boolean` answers of its argument.
+fn boolean_answer(argument: &[Item]) -> Result<Answer, Failure>
+    ensures value { (schemas : SchemaSet) (forest later : PlainForest) → IfOk result (λ r. called schemas functions.Boolean (items_in later argument.now ∷ []) forest ≡ gives (answer_items later r) forest) }
+    ensures fits { IfOk result (λ r. AnswerFits r) }
+    ensures failed { (schemas : SchemaSet) (forest later : PlainForest) → IfErr result (λ e. FailsSo e (called schemas functions.Boolean (items_in later argument.now ∷ []) forest)) }
+{
+    match effective_boolean(argument) {
+        Some(truth) => {
+            let own = boolean_atom(argument, truth)?;
+            Ok(Answer::One(own))
+        }
+        None => Err(Failure::Wrong),
+    }
+}
+
+// The value of an effective boolean value: one boolean is itself, under its own type.
+fn boolean_atom(items: &[Item], truth: bool) -> Result<Atomic, AllocError>
+    ensures { (forest later : PlainForest) → IfOk result (λ a. a ≡ boolean_of_truth (views_of forest (items_in later items.now)) truth) }
+{
+    match items.split_first() {
+        Some((Item::Atom(value), others)) if others.is_empty() => own_boolean(value, truth),
+        _ => Ok(truth_atom(truth)),
+    }
+}
+
+// A boolean itself, and for another value its truth.
+fn own_boolean(value: &Atomic, truth: bool) -> Result<Atomic, AllocError>
+    ensures { IfOk result (λ a. a ≡ (if is_boolean_value value.now.value then value.now else truth_atom truth)) }
+{
+    match value.value {
+        AtomValue::Truth(_) => value.clone(),
+        _ => Ok(truth_atom(truth)),
+    }
+}
+
 // The string value of at most one item.
 #[tactic(auto, using(crate::proofs::Operands::many_have_no_string))]
 fn string_of(alloc: Global, store: &Store, items: &[Item]) -> Result<Option<Text>, AllocError>
@@ -287,7 +321,7 @@ impl<'a> Evaluation<'a> {
         schemas: &Schemas,
         store: &Store,
         function: Function,
-        arguments: &'a [TypedExpr],
+        arguments: &'a [PlanExpr],
     ) -> Result<(), Failure>
         ensures value { (calls : CallOutcomes) (later : PlainForest) → Extends store.now later → let k = context_with schemas.now calls in OnOk result (outcome_of k store.now later self.new
             ≡ outcome_behind k later (denoted k (operators.Call function) (map (meaning k) arguments.now) (items_of later self.old.scope) store.now) self.old) }
@@ -307,7 +341,7 @@ impl<'a> Evaluation<'a> {
     fn open_arguments(
         &mut self,
         function: Function,
-        arguments: &'a [TypedExpr],
+        arguments: &'a [PlanExpr],
     ) -> Result<(), AllocError>
         requires { 2 ≤ length arguments.now }
         ensures { (k : Context) (forest later : PlainForest) → OnOk result (outcome_of k forest later self.new

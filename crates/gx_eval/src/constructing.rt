@@ -31,8 +31,8 @@ use gx_base::text::Text;
 use gx_base::text_builder::TextBuilder;
 use gx_build::build;
 use gx_core::constructor::Constructor;
-use gx_core::expression::TypedExpr;
 use gx_facets::{Atomic, print_value};
+use gx_plan::plan::PlanExpr;
 use gx_store::item::Item;
 use gx_store::number::NodeId;
 use gx_store::store::Store;
@@ -44,7 +44,7 @@ impl<'a> Evaluation<'a> {
     pub(crate) fn open_construct(
         &mut self,
         constructor: &'a Constructor,
-        parts: &'a [TypedExpr],
+        parts: &'a [PlanExpr],
     ) -> Result<(), AllocError>
         ensures { (k : Context) (forest later : PlainForest) → OnOk result (outcome_of k forest later self.new
             ≡ outcome_behind k later (denoted k (operators.Construct constructor.now (length parts.now)) (map (meaning k) parts.now) (items_of later self.old.scope) forest) self.old) }

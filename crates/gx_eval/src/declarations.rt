@@ -6,7 +6,7 @@ ghost use Rattle.gx_model.specs.Growth.{Extends};
 ghost use Rattle.gx_core.specs.Functions.{functions_of};
 ghost use Rattle.gx_core.specs.Meaning.{Bindings};
 ghost use Rattle.gx_core.specs.Outcome.{Outcome, gives, after};
-ghost use Rattle.gx_core.specs.Queries.{TypedDeclaration as PlainDeclaration};
+ghost use Rattle.gx_plan.specs.Plan.{DeclarationOfPlan as PlainDeclaration};
 ghost use Rattle.gx_core.specs.QueryMeaning.{globals_bound, outcome_within};
 ghost use Rattle.gx_model.specs.Item.{Items};
 ghost use Rattle.gx_store.specs.Items.{items_in};
@@ -19,8 +19,8 @@ ghost use Rattle.gx_eval.specs.Resume.{items_of};
 use crate::bound::{Bound, take_bound};
 use crate::failure::Failure;
 use crate::frames::{Declared, value_of};
-use gx_core::expression::{TypedCore, TypedDeclaration, TypedFunction};
 use gx_core::scope::Scope;
+use gx_plan::plan::{PlanDeclaration, PlanFunction, PlanQuery};
 use gx_store::item::Item;
 use gx_store::number::NodeId;
 use gx_store::store::Store;
@@ -31,7 +31,7 @@ use std::alloc::{AllocError, Global};
 pub(crate) fn query_value(
     alloc: Global,
     schemas: &Schemas,
-    core: &TypedCore,
+    core: &PlanQuery,
     store: &mut Store,
     documents: &[NodeId],
     limit: u32,
@@ -64,13 +64,13 @@ pub(crate) fn query_value(
 // The functions among declarations.
 fn functions_among<'a>(
     alloc: Global,
-    declarations: &'a [TypedDeclaration],
-) -> Result<Vec<&'a TypedFunction>, AllocError>
+    declarations: &'a [PlanDeclaration],
+) -> Result<Vec<&'a PlanFunction>, AllocError>
     ensures { IfOk result (λ functions. functions_in functions.items ≡ functions_of declarations.now) }
 {
     let mut functions = Vec::new(alloc);
     for declaration in declarations {
-        if let TypedDeclaration::Function(function) = declaration {
+        if let PlanDeclaration::Function(function) = declaration {
             functions.push(function)?;
         }
     }
@@ -82,9 +82,9 @@ fn bound_globals(
     alloc: Global,
     schemas: &Schemas,
     store: &mut Store,
-    functions: &[&TypedFunction],
+    functions: &[&PlanFunction],
     limit: u32,
-    declarations: &[TypedDeclaration],
+    declarations: &[PlanDeclaration],
     documents: &[NodeId],
 ) -> Result<Scope<Bound>, Failure>
     ensures grows { GrowsHonestly schemas.now store.old store.new }
@@ -117,9 +117,9 @@ fn bind_global<'d>(
     alloc: Global,
     schemas: &Schemas,
     store: &mut Store,
-    functions: &[&TypedFunction],
+    functions: &[&PlanFunction],
     limit: u32,
-    declaration: &TypedDeclaration,
+    declaration: &PlanDeclaration,
     documents: &'d [NodeId],
     globals: &mut Scope<Bound>,
 ) -> Result<&'d [NodeId], Failure>
@@ -131,8 +131,8 @@ fn bind_global<'d>(
         FailsSo e (after (globals_bound schemas.now (functions_in functions.now) limit (declaration.now ∷ others) (node_places later documents.now) (items_of later globals.old) store.old) next)) }
 {
     match declaration {
-        TypedDeclaration::Function(_) => Ok(documents),
-        TypedDeclaration::Global {
+        PlanDeclaration::Function(_) => Ok(documents),
+        PlanDeclaration::Global {
             binder,
             value: Some(value),
             ..
@@ -143,7 +143,7 @@ fn bind_global<'d>(
             globals.bind(binder.variable, bound)?;
             Ok(documents)
         }
-        TypedDeclaration::Global {
+        PlanDeclaration::Global {
             binder,
             value: None,
             ..

@@ -19,9 +19,10 @@ use crate::switching::Choice;
 use crate::tuples::{Tuples, unbind_innermost};
 use gx_base::stack::Stack;
 use gx_core::constructor::Constructor;
-use gx_core::expression::{BinaryOp, TypedExpr};
+use gx_core::expression::BinaryOp;
 use gx_core::signature::FunctionSignature;
 use gx_funcs::function::Function;
+use gx_plan::plan::PlanExpr;
 use gx_store::item::Item;
 use gx_store::store::Store;
 use gx_types::schemas::Schemas;
@@ -32,7 +33,7 @@ use std::alloc::{AllocError, Global};
 #[derive(Drop)]
 pub(crate) enum Pending<'a> {
     // Evaluates an expression.
-    Evaluate(&'a TypedExpr),
+    Evaluate(&'a PlanExpr),
     // Changes an operand where it stands.
     Change(Change<'a>, usize),
     // Takes a step from each node of an operand.
@@ -40,11 +41,11 @@ pub(crate) enum Pending<'a> {
     // Applies an operator of one operand.
     Single(Single<'a>, usize),
     // Evaluates the right operand of an operator, whose left one is there.
-    Right(BinaryOp, usize, &'a TypedExpr),
+    Right(BinaryOp, usize, &'a PlanExpr),
     // Applies an operator of two operands.
     Binary(BinaryOp, usize, usize),
     // Chooses the first branch where the operand is true, and else the second.
-    Choose(usize, &'a TypedExpr, &'a TypedExpr),
+    Choose(usize, &'a PlanExpr, &'a PlanExpr),
     // Chooses the branch of the first case whose type the operand is of, or of the default.
     Switch(usize, Choice<'a>),
     // Marks where an argument begins.
@@ -56,15 +57,15 @@ pub(crate) enum Pending<'a> {
     // Calls a declared function with so many arguments, which stand behind the last marks.
     Enter(&'a FunctionSignature, usize),
     // Puts the items of an operand aside for a loop.
-    Gather(Loop, usize, &'a TypedExpr),
+    Gather(Loop, usize, &'a PlanExpr),
     // Repeats a body for each item put aside from the first number on; the items of this loop begin at the second.
-    Each(Loop, usize, usize, &'a TypedExpr),
+    Each(Loop, usize, usize, &'a PlanExpr),
     // Ends a search where the value of its test decides, and else goes on.
     Decide(Decision<'a>),
     // Does a piece of the work of a block.
     Block(BlockWork, BlockRest<'a>),
     // Binds a variable to an operand in the body of a `let`.
-    Bind(u32, usize, &'a TypedExpr),
+    Bind(u32, usize, &'a PlanExpr),
     // Takes so many innermost bindings away.
     Unbind(usize),
 }
@@ -85,7 +86,7 @@ impl<'a> Evaluation<'a> {
     // The evaluation of an expression, where these variables are in scope.
     pub(crate) fn new(
         alloc: Global,
-        expression: &'a TypedExpr,
+        expression: &'a PlanExpr,
         scope: Locals<'a>,
     ) -> Result<Evaluation<'a>, AllocError>
         ensures { (k : Context) (forest later : PlainForest) → IfOk result (λ e. outcome_of k forest later e ≡ meaning k expression.now (items_of later scope.entry) forest) }

@@ -6,7 +6,7 @@ ghost use Rattle.gx_model.specs.Forest.{Forest as PlainForest};
 ghost use Rattle.gx_model.specs.Growth.{Extends};
 ghost use Rattle.gx_model.specs.Item.{Items};
 ghost use Rattle.gx_core.specs.Functions.{arguments_bound, calls_over, context_over};
-ghost use Rattle.gx_core.specs.Queries.{TypedFunction as PlainFunction};
+ghost use Rattle.gx_plan.specs.Plan.{FunctionOfPlan as PlainFunction};
 ghost use Rattle.gx_core.specs.declared.signature.FunctionSignature.{FunctionSignature as PlainSignature};
 ghost use Rattle.gx_core.specs.Meaning.{Bindings, meaning};
 ghost use Rattle.gx_core.specs.Outcome.{Outcome, gives};
@@ -26,9 +26,10 @@ use crate::locals::Locals;
 use crate::operand::move_behind;
 use gx_base::code::Code;
 use gx_base::stack::Stack;
-use gx_core::expression::{Binder, TypedExpr, TypedFunction};
+use gx_core::expression::Binder;
 use gx_core::scope::Scope;
 use gx_core::signature::FunctionSignature;
+use gx_plan::plan::{PlanExpr, PlanFunction};
 use gx_store::item::Item;
 use gx_store::store::Store;
 use gx_types::schemas::Schemas;
@@ -39,7 +40,7 @@ use std::mem;
 // The functions of a query in the order of their declarations, and its globals that are bound.
 #[derive(Clone, Copy)]
 pub(crate) struct Declared<'a> {
-    pub(crate) functions: &'a [&'a TypedFunction],
+    pub(crate) functions: &'a [&'a PlanFunction],
     pub(crate) globals: &'a Scope<Bound>,
 }
 
@@ -67,7 +68,7 @@ impl<'a> ActiveCalls<'a> {
         alloc: Global,
         declared: Declared<'a>,
         limit: u32,
-        expression: &'a TypedExpr,
+        expression: &'a PlanExpr,
     ) -> Result<ActiveCalls<'a>, AllocError>
         ensures { (schemas : SchemaSet) (forest later : PlainForest) → let globals = items_of later declared.entry.globals.now in
             IfOk result (λ active. outcome_of_calls schemas (functions_in declared.entry.functions.now) globals forest later active
@@ -189,7 +190,7 @@ impl<'a> ActiveCalls<'a> {
         alloc: Global,
         globals: &'a Scope<Bound>,
         left: u32,
-        function: &'a TypedFunction,
+        function: &'a PlanFunction,
         arguments: Vec<Bound>,
     ) -> Result<(), AllocError>
         ensures { (schemas : SchemaSet) (functions : List PlainFunction) (forest later : PlainForest) → let bound = items_of later globals.now in
@@ -243,7 +244,7 @@ pub(crate) fn value_of(
     store: &mut Store,
     declared: Declared<'_>,
     limit: u32,
-    expression: &TypedExpr,
+    expression: &PlanExpr,
 ) -> Result<Vec<Item>, Failure>
     ensures grows { GrowsHonestly schemas.now store.old store.new }
     ensures value { (later : PlainForest) → Extends store.new later → let globals = items_of later declared.entry.globals.now in IfOk result (λ v.
@@ -269,7 +270,7 @@ fn values_of(evaluation: Evaluation<'_>) -> Vec<Item>
 }
 
 // The function of a number.
-fn function_at<'a>(functions: &[&'a TypedFunction], number: u32) -> Option<&'a TypedFunction>
+fn function_at<'a>(functions: &[&'a PlanFunction], number: u32) -> Option<&'a PlanFunction>
     ensures { option_copied result ≡ slice_get (functions_in functions.now) number }
 {
     functions.get(number as usize).copied()

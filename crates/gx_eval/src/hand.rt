@@ -24,8 +24,9 @@ use crate::locals::Locals;
 use crate::operand::{any_node, only_node};
 use gx_base::text::Text;
 use gx_base::type_name::{Builtin, TypeName};
-use gx_core::expression::{Form, TypedExpr};
+use gx_core::expression::Form;
 use gx_facets::{AtomValue, Atomic};
+use gx_plan::plan::PlanExpr;
 use gx_store::item::Item;
 use gx_store::number::NodeId;
 use gx_store::store::Store;
@@ -66,7 +67,7 @@ pub(crate) fn at_hand<'s>(
     schemas: &Schemas,
     store: &Store,
     scope: &'s Locals<'_>,
-    expression: &TypedExpr,
+    expression: &PlanExpr,
 ) -> Result<Option<AtHand<'s>>, AllocError>
     ensures { (calls : CallOutcomes) (later : Forest) → Extends store.now later → IfOk result (λ found. IfSome found (λ hand. meaning (context_with schemas.now calls) expression.now (items_of later scope.now) store.now ≡ gives (hand_items later hand) store.now)) }
 {
@@ -81,7 +82,7 @@ fn atoms_at_hand<'s>(
     schemas: &Schemas,
     store: &Store,
     scope: &'s Locals<'_>,
-    operand: &TypedExpr,
+    operand: &PlanExpr,
 ) -> Result<Option<AtHand<'s>>, AllocError>
     ensures { (calls : CallOutcomes) (later : Forest) → Extends store.now later → IfOk result (λ found. IfSome found (λ hand.
         denoted (context_with schemas.now calls) operators.DataOf (meaning (context_with schemas.now calls) operand.now ∷ []) (items_of later scope.now) store.now ≡ gives (hand_items later hand) store.now)) }
@@ -169,7 +170,7 @@ fn value_at_hand<'s>(
     schemas: &Schemas,
     store: &Store,
     scope: &'s Locals<'_>,
-    expression: &TypedExpr,
+    expression: &PlanExpr,
 ) -> Result<Option<AtHand<'s>>, AllocError>
     ensures { (calls : CallOutcomes) (later : Forest) → Extends store.now later → IfOk result (λ found. IfSome found (λ hand. meaning (context_with schemas.now calls) expression.now (items_of later scope.now) store.now ≡ gives (hand_items later hand) store.now)) }
 {
@@ -231,7 +232,7 @@ fn node_at_hand<'s>(nodes: Vec<NodeId>) -> Option<AtHand<'s>>
 }
 
 // The variable, the axis and the test of a path of one step from a variable, as `$v/@name`.
-fn step_path(path: &TypedExpr) -> Option<(u32, Axis, &Test)>
+fn step_path(path: &PlanExpr) -> Option<(u32, Axis, &Test)>
     ensures { IfSome result (λ asked. IsStepFrom asked.0 asked.1 asked.2.now path.now) }
 {
     let Form::For(binder, position, source, step) = &path.form else {

@@ -17,8 +17,9 @@ use crate::failure::Failure;
 use crate::locals::Locals;
 use crate::operand::{condition_of, count_of, cut_off, move_from, push_atom, values_from};
 use gx_base::stack::Stack;
-use gx_core::expression::{Binder, TypedExpr};
+use gx_core::expression::Binder;
 use gx_funcs::function::{integer_atom, truth_atom};
+use gx_plan::plan::PlanExpr;
 use gx_store::item::Item;
 use std::alloc::{AllocError, Global};
 
@@ -45,7 +46,7 @@ pub(crate) struct Decision<'a> {
     pub(crate) first: usize,
     pub(crate) next: usize,
     pub(crate) start: usize,
-    pub(crate) test: &'a TypedExpr,
+    pub(crate) test: &'a PlanExpr,
 }
 
 // Whether the truth of a test ends a search.
@@ -87,8 +88,8 @@ impl<'a> Evaluation<'a> {
         &mut self,
         binder: &'a Binder,
         decisive: bool,
-        source: &'a TypedExpr,
-        test: &'a TypedExpr,
+        source: &'a PlanExpr,
+        test: &'a PlanExpr,
     ) -> Result<(), AllocError>
         ensures { (k : Context) (forest later : PlainForest) → OnOk result (outcome_of k forest later self.new
             ≡ outcome_behind k later (search_meaning k decisive binder.now.variable source.now test.now (items_of later self.old.scope) forest) self.old) }
@@ -107,7 +108,7 @@ impl<'a> Evaluation<'a> {
         alloc: Global,
         repeated: Loop,
         first: usize,
-        body: &'a TypedExpr,
+        body: &'a PlanExpr,
     ) -> Result<(), AllocError>
         ensures { (k : Context) (forest later : PlainForest) → OnOk result (outcome_of k forest later self.new ≡ outcome_with k forest later (work.Gather repeated first body.entry) self.old) }
     {
@@ -123,7 +124,7 @@ impl<'a> Evaluation<'a> {
         repeated: Loop,
         next: usize,
         start: usize,
-        body: &'a TypedExpr,
+        body: &'a PlanExpr,
     ) -> Result<(), AllocError>
         ensures { (k : Context) (forest later : PlainForest) → OnOk result (outcome_of k forest later self.new ≡ outcome_with k forest later (work.Each repeated next start body.entry) self.old) }
     {
@@ -147,7 +148,7 @@ impl<'a> Evaluation<'a> {
         number: usize,
         next: usize,
         start: usize,
-        body: &'a TypedExpr,
+        body: &'a PlanExpr,
     ) -> Result<(), AllocError>
         ensures { (k : Context) (forest later : PlainForest) → OnOk result (outcome_of k forest later self.new ≡ outcome_with k forest later (work.Each (loops.For variable position number) next start body.entry) self.old) }
     {
@@ -179,7 +180,7 @@ impl<'a> Evaluation<'a> {
         decisive: bool,
         next: usize,
         start: usize,
-        test: &'a TypedExpr,
+        test: &'a PlanExpr,
     ) -> Result<(), AllocError>
         ensures { (k : Context) (forest later : PlainForest) → OnOk result (outcome_of k forest later self.new ≡ outcome_with k forest later (work.Each (loops.Search variable decisive) next start test.entry) self.old) }
     {

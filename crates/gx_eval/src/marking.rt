@@ -9,13 +9,13 @@ ghost use Rattle.gx_eval.specs.Resume.{Stacks, in_order, items_of, outcome_of, o
 
 use crate::evaluation::{Evaluation, Pending};
 use gx_base::stack::Stack;
-use gx_core::expression::TypedExpr;
 use gx_core::signature::FunctionSignature;
+use gx_plan::plan::PlanExpr;
 use std::alloc::AllocError;
 
 // Puts down that parts are evaluated from the left, each with a mark of its own.
 pub(crate) fn mark_parts<'a>(
-    parts: &'a [TypedExpr],
+    parts: &'a [PlanExpr],
     work: &mut Stack<Pending<'a>>,
 ) -> Result<(), AllocError>
     ensures { (k : Context) (stacks : Stacks) (values : Items) (marks : List ℕ) (bindings : Bindings) (forest : PlainForest) → OnOk result (
@@ -35,7 +35,7 @@ impl<'a> Evaluation<'a> {
     pub(crate) fn open_user_call(
         &mut self,
         signature: &'a FunctionSignature,
-        arguments: &'a [TypedExpr],
+        arguments: &'a [PlanExpr],
     ) -> Result<(), AllocError>
         ensures { (k : Context) (forest later : PlainForest) → OnOk result (outcome_of k forest later self.new
             ≡ outcome_behind k later (denoted k (operators.User signature.now (length arguments.now)) (map (meaning k) arguments.now) (items_of later self.old.scope) forest) self.old) }

@@ -17,7 +17,8 @@ use crate::failure::Failure;
 use crate::nodes::{append_nodes, stepped};
 use crate::operand::{append_all, push_atom};
 use crate::single::Single;
-use gx_core::expression::{Form, TypedExpr};
+use gx_core::expression::Form;
+use gx_plan::plan::PlanExpr;
 use gx_store::store::Store;
 use gx_types::schemas::Schemas;
 use gx_types::step::{Axis, Test};
@@ -30,7 +31,7 @@ impl<'a> Evaluation<'a> {
         alloc: Global,
         schemas: &Schemas,
         store: &Store,
-        expression: &'a TypedExpr,
+        expression: &'a PlanExpr,
     ) -> Result<(), Failure>
         ensures value { (calls : CallOutcomes) (later : PlainForest) → Extends store.now later → OnOk result (outcome_of (context_with schemas.now calls) store.now later self.new ≡ outcome_with (context_with schemas.now calls) store.now later (work.Evaluate expression.entry) self.old) }
         ensures failed { (calls : CallOutcomes) (later : PlainForest) → Extends store.now later → IfErr result (λ e. FailsSo e (outcome_with (context_with schemas.now calls) store.now later (work.Evaluate expression.entry) self.old)) }
@@ -99,7 +100,7 @@ impl<'a> Evaluation<'a> {
     // A part that is evaluated first, and what is done behind it.
     pub(crate) fn open_part(
         &mut self,
-        part: &'a TypedExpr,
+        part: &'a PlanExpr,
         behind: Pending<'a>,
     ) -> Result<(), AllocError>
         ensures { (k : Context) (forest later : PlainForest) → OnOk result (outcome_of k forest later self.new ≡ outcome_then k forest later part.now behind.entry self.old) }

@@ -20,7 +20,8 @@ use crate::failure::Failure;
 use crate::hand::at_hand;
 use crate::operand::{count_of, cut_at, cut_off, values_from};
 use crate::single::{Single, of_one};
-use gx_core::expression::{BinaryOp, TypedExpr};
+use gx_core::expression::BinaryOp;
+use gx_plan::plan::PlanExpr;
 use gx_store::store::Store;
 use gx_types::schemas::Schemas;
 use std::alloc::{AllocError, Global};
@@ -33,7 +34,7 @@ impl<'a> Evaluation<'a> {
         schemas: &Schemas,
         store: &Store,
         operator: Single<'a>,
-        operand: &'a TypedExpr,
+        operand: &'a PlanExpr,
     ) -> Result<(), Failure>
         ensures value { (calls : CallOutcomes) (later : PlainForest) → Extends store.now later → let k = context_with schemas.now calls in OnOk result (outcome_of k store.now later self.new
             ≡ outcome_behind k later (denoted k (single_operator operator.entry) (meaning k operand.now ∷ []) (items_of later self.old.scope) store.now) self.old) }
@@ -55,7 +56,7 @@ impl<'a> Evaluation<'a> {
         schemas: &Schemas,
         store: &Store,
         operator: Single<'a>,
-        operand: &TypedExpr,
+        operand: &PlanExpr,
     ) -> Result<Option<Answer>, Failure>
         ensures value { (calls : CallOutcomes) (later : PlainForest) → Extends store.now later → let k = context_with schemas.now calls in IfOk result (λ found. IfSome found (λ r.
             denoted k (single_operator operator.entry) (meaning k operand.now ∷ []) (items_of later self.now.scope) store.now ≡ gives (answer_items later r) store.now)) }
@@ -93,8 +94,8 @@ impl<'a> Evaluation<'a> {
         schemas: &Schemas,
         store: &Store,
         operator: BinaryOp,
-        left: &'a TypedExpr,
-        right: &'a TypedExpr,
+        left: &'a PlanExpr,
+        right: &'a PlanExpr,
     ) -> Result<(), Failure>
         ensures value { (calls : CallOutcomes) (later : PlainForest) → Extends store.now later → let k = context_with schemas.now calls in OnOk result (outcome_of k store.now later self.new
             ≡ outcome_behind k later (denoted k (operators.Binary operator) (meaning k left.now ∷ meaning k right.now ∷ []) (items_of later self.old.scope) store.now) self.old) }
@@ -115,8 +116,8 @@ impl<'a> Evaluation<'a> {
         schemas: &Schemas,
         store: &Store,
         operator: BinaryOp,
-        left: &TypedExpr,
-        right: &TypedExpr,
+        left: &PlanExpr,
+        right: &PlanExpr,
     ) -> Result<Option<Answer>, Failure>
         ensures value { (calls : CallOutcomes) (later : PlainForest) → Extends store.now later → let k = context_with schemas.now calls in IfOk result (λ found. IfSome found (λ r.
             denoted k (operators.Binary operator) (meaning k left.now ∷ meaning k right.now ∷ []) (items_of later self.now.scope) store.now ≡ gives (answer_items later r) store.now)) }
@@ -147,7 +148,7 @@ impl<'a> Evaluation<'a> {
         store: &Store,
         operator: BinaryOp,
         first: usize,
-        right: &'a TypedExpr,
+        right: &'a PlanExpr,
     ) -> Result<(), Failure>
         ensures value { (calls : CallOutcomes) (later : PlainForest) → Extends store.now later → let k = context_with schemas.now calls in OnOk result (outcome_of k store.now later self.new ≡ outcome_with k store.now later (work.Right operator first right.entry) self.old) }
         ensures failed { (calls : CallOutcomes) (later : PlainForest) → Extends store.now later → let k = context_with schemas.now calls in IfErr result (λ e. FailsSo e (outcome_with k store.now later (work.Right operator first right.entry) self.old)) }
@@ -169,7 +170,7 @@ impl<'a> Evaluation<'a> {
         store: &Store,
         operator: BinaryOp,
         first: usize,
-        right: &TypedExpr,
+        right: &PlanExpr,
     ) -> Result<Option<Answer>, Failure>
         ensures value { (calls : CallOutcomes) (later : PlainForest) → Extends store.now later → let k = context_with schemas.now calls in IfOk result (λ found. IfSome found (λ r.
             right_meaning k operator first right.now (items_in later self.now.values.items) (items_of later self.now.scope) store.now ≡ gives (answer_items later r) store.now)) }
@@ -207,7 +208,7 @@ impl<'a> Evaluation<'a> {
     pub(crate) fn open_change(
         &mut self,
         operator: Change<'a>,
-        operand: &'a TypedExpr,
+        operand: &'a PlanExpr,
     ) -> Result<(), AllocError>
         ensures { (k : Context) (forest later : PlainForest) → OnOk result (outcome_of k forest later self.new
             ≡ outcome_behind k later (denoted k (changing_operator operator.entry) (meaning k operand.now ∷ []) (items_of later self.old.scope) forest) self.old) }

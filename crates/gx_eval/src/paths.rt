@@ -7,7 +7,8 @@ ghost use Rattle.gx_core.specs.PathLaws.{only_nodes, ordered};
 ghost use Rattle.gx_model.specs.Forest.{Forest as PlainForest};
 ghost use Rattle.gx_eval.specs.StepLoops.{steps_meaning};
 
-use gx_core::expression::{Binder, Form, TypedExpr};
+use gx_core::expression::{Binder, Form};
+use gx_plan::plan::PlanExpr;
 use gx_types::step::{Axis, Test};
 
 // A loop whose body is a step from its variable, along an axis and with a test.
@@ -16,15 +17,15 @@ pub(crate) struct StepLoop<'a> {
     pub(crate) binder: &'a Binder,
     pub(crate) axis: Axis,
     pub(crate) test: &'a Test,
-    pub(crate) source: &'a TypedExpr,
+    pub(crate) source: &'a PlanExpr,
 }
 
 // The loop of steps that a `for` is, if it has no position and its body is a step from its variable.
 pub(crate) fn loop_of_steps<'a>(
     binder: &'a Binder,
     position: u32,
-    source: &'a TypedExpr,
-    body: &'a TypedExpr,
+    source: &'a PlanExpr,
+    body: &'a PlanExpr,
 ) -> Option<StepLoop<'a>>
     ensures { (k : Context) → IfSome result (λ steps. denoted k (operators.For binder.now position) (meaning k source.now ∷ meaning k body.now ∷ []) ≡ steps_meaning k steps) }
 {
@@ -42,7 +43,7 @@ pub(crate) fn loop_of_steps<'a>(
 }
 
 // The loop of steps that an expression is, if it is one.
-fn steps_of<'a>(expression: &'a TypedExpr) -> Option<StepLoop<'a>>
+fn steps_of<'a>(expression: &'a PlanExpr) -> Option<StepLoop<'a>>
     ensures { (k : Context) → IfSome result (λ steps. meaning k expression.now ≡ steps_meaning k steps) }
 {
     match &expression.form {
@@ -52,7 +53,7 @@ fn steps_of<'a>(expression: &'a TypedExpr) -> Option<StepLoop<'a>>
 }
 
 // What an expression puts in document order, if it is nodes in document order.
-fn ordered_part<'a>(expression: &'a TypedExpr) -> Option<&'a TypedExpr>
+fn ordered_part<'a>(expression: &'a PlanExpr) -> Option<&'a PlanExpr>
     ensures { (k : Context) → IfSome result (λ operand. meaning k expression.now ≡ only_nodes k (ordered k (meaning k operand.now))) }
 {
     match &expression.form {
@@ -65,7 +66,7 @@ fn ordered_part<'a>(expression: &'a TypedExpr) -> Option<&'a TypedExpr>
 }
 
 // The descendants that are the same as an operand in document order, if it is the children of all nodes at and below a source.
-pub(crate) fn descendants_of<'a>(operand: &'a TypedExpr) -> Option<StepLoop<'a>>
+pub(crate) fn descendants_of<'a>(operand: &'a PlanExpr) -> Option<StepLoop<'a>>
     ensures { (k : Context) (bindings : Bindings) (forest : PlainForest) → IfSome result (λ steps. ordered k (meaning k operand.now) bindings forest ≡ ordered k (steps_meaning k steps) bindings forest) }
 {
     let children = steps_of(operand)?;

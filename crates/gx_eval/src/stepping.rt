@@ -22,7 +22,8 @@ use crate::looping::Loop;
 use crate::nodes::{append_nodes, stepped};
 use crate::operand::{count_of, cut_off, values_from};
 use crate::paths::{StepLoop, descendants_of, loop_of_steps};
-use gx_core::expression::{Binder, TypedExpr};
+use gx_core::expression::Binder;
+use gx_plan::plan::PlanExpr;
 use gx_store::item::Item;
 use gx_store::number::NodeId;
 use gx_store::store::Store;
@@ -37,8 +38,8 @@ impl<'a> Evaluation<'a> {
         &mut self,
         binder: &'a Binder,
         position: u32,
-        source: &'a TypedExpr,
-        body: &'a TypedExpr,
+        source: &'a PlanExpr,
+        body: &'a PlanExpr,
     ) -> Result<(), AllocError>
         ensures { (k : Context) (forest later : PlainForest) → OnOk result (outcome_of k forest later self.new
             ≡ outcome_behind k later (denoted k (operators.For binder.now position) (meaning k source.now ∷ meaning k body.now ∷ []) (items_of later self.old.scope) forest) self.old) }
@@ -56,7 +57,7 @@ impl<'a> Evaluation<'a> {
     }
 
     // An operand that is put in document order: the children of all nodes at and below a source are found as its descendants.
-    pub(crate) fn open_ordered(&mut self, operand: &'a TypedExpr) -> Result<(), AllocError>
+    pub(crate) fn open_ordered(&mut self, operand: &'a PlanExpr) -> Result<(), AllocError>
         ensures { (k : Context) (forest later : PlainForest) → OnOk result (outcome_of k forest later self.new
             ≡ outcome_behind k later (ordered k (meaning k operand.now) (items_of later self.old.scope) forest) self.old) }
     {

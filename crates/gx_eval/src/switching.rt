@@ -14,7 +14,7 @@ use crate::failure::Failure;
 use crate::instances::is_instance;
 use crate::operand::{condition_of, count_of, cut_off, values_from};
 use gx_core::cases::TypeCase;
-use gx_core::expression::TypedExpr;
+use gx_plan::plan::PlanExpr;
 use gx_store::store::Store;
 use gx_types::schemas::Schemas;
 use std::alloc::{AllocError, Global};
@@ -24,16 +24,16 @@ use std::alloc::{AllocError, Global};
 pub(crate) struct Choice<'a> {
     pub(crate) cases: &'a [TypeCase],
     pub(crate) default: u32,
-    pub(crate) branches: &'a [TypedExpr],
+    pub(crate) branches: &'a [PlanExpr],
 }
 
 impl<'a> Evaluation<'a> {
     // A condition is evaluated first, and then the branch that it chooses.
     pub(crate) fn open_if(
         &mut self,
-        condition: &'a TypedExpr,
-        chosen: &'a TypedExpr,
-        otherwise: &'a TypedExpr,
+        condition: &'a PlanExpr,
+        chosen: &'a PlanExpr,
+        otherwise: &'a PlanExpr,
     ) -> Result<(), AllocError>
         ensures { (k : Context) (forest later : PlainForest) → OnOk result (outcome_of k forest later self.new
             ≡ outcome_behind k later (denoted k operators.If (meaning k condition.now ∷ meaning k chosen.now ∷ meaning k otherwise.now ∷ []) (items_of later self.old.scope) forest) self.old) }
@@ -45,10 +45,10 @@ impl<'a> Evaluation<'a> {
     // The operand of a switch is evaluated first, and then the branch that its type chooses.
     pub(crate) fn open_switch(
         &mut self,
-        operand: &'a TypedExpr,
+        operand: &'a PlanExpr,
         cases: &'a [TypeCase],
         default: u32,
-        branches: &'a [TypedExpr],
+        branches: &'a [PlanExpr],
     ) -> Result<(), AllocError>
         ensures { (k : Context) (forest later : PlainForest) → OnOk result (outcome_of k forest later self.new
             ≡ outcome_behind k later (denoted k (operators.Switch cases.now default) (meaning k operand.now ∷ map (meaning k) branches.now) (items_of later self.old.scope) forest) self.old) }
@@ -66,8 +66,8 @@ impl<'a> Evaluation<'a> {
     pub(crate) fn choose(
         &mut self,
         first: usize,
-        chosen: &'a TypedExpr,
-        otherwise: &'a TypedExpr,
+        chosen: &'a PlanExpr,
+        otherwise: &'a PlanExpr,
     ) -> Result<(), Failure>
         ensures value { (k : Context) (forest later : PlainForest) → OnOk result (outcome_of k forest later self.new ≡ outcome_with k forest later (work.Choose first chosen.entry otherwise.entry) self.old) }
         ensures failed { (k : Context) (forest later : PlainForest) → IfErr result (λ e. FailsSo e (outcome_with k forest later (work.Choose first chosen.entry otherwise.entry) self.old)) }
@@ -123,7 +123,7 @@ impl<'a> Evaluation<'a> {
         alloc: Global,
         first: usize,
         variable: u32,
-        branch: &'a TypedExpr,
+        branch: &'a PlanExpr,
     ) -> Result<(), AllocError>
         ensures { (k : Context) (forest later : PlainForest) → OnOk result (outcome_of k forest later self.new ≡ branch_outcome k forest later first variable branch.now self.old) }
     {

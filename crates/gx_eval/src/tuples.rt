@@ -10,8 +10,8 @@ ghost use Rattle.gx_eval.specs.FoundTuples.{numbers_in_order};
 
 use crate::bound::Bound;
 use crate::locals::Locals;
-use gx_core::expression::TypedKey;
 use gx_facets::Atomic;
+use gx_plan::plan::PlanKey;
 use gx_sorting::{KeyOrder, sorted_numbers};
 use gx_store::item::Item;
 use std::alloc::{AllocError, Global};
@@ -102,7 +102,7 @@ pub(crate) fn key_of(value: &[Item]) -> Result<Option<Option<Atomic>>, AllocErro
 // The numbers of so many tuples in the order of their keys.
 pub(crate) fn numbers_in_order(
     alloc: Global,
-    sort_keys: &[TypedKey],
+    sort_keys: &[PlanKey],
     keys: &[Option<Atomic>],
     count: usize,
 ) -> Result<Vec<usize>, AllocError>
@@ -112,7 +112,7 @@ pub(crate) fn numbers_in_order(
     sorted_numbers(alloc, &orders, keys, count)
 }
 
-fn orders_of(alloc: Global, sort_keys: &[TypedKey]) -> Result<Vec<KeyOrder>, AllocError>
+fn orders_of(alloc: Global, sort_keys: &[PlanKey]) -> Result<Vec<KeyOrder>, AllocError>
     ensures { IfOk result (λ orders. orders.items ≡ map order_of_key sort_keys.now) }
 {
     let mut orders = Vec::new(alloc);

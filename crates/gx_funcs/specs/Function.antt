@@ -9,7 +9,7 @@ use Rattle.gx_num.specs.declared.Number.TheVariants.{Int}
 use Rattle.gx_facets.specs.declared.Atomic.{Atomic}
 use Rattle.gx_facets.specs.declared.AtomValue.TheVariants.{Str, Truth, Num}
 use Rattle.gx_facets.specs.Value.{printed_value}
-use Rattle.gx_atomic.specs.EffectiveBoolean.{effective_boolean_value}
+use Rattle.gx_atomic.specs.EffectiveBoolean.{is_boolean_value, effective_boolean_value}
 use Rattle.gx_funcs.specs.declared.function.Function.{Function}
 use Rattle.gx_funcs.specs.declared.function.Function.TheVariants as functions
 use Rattle.gx_funcs.specs.declared.function.Parameter.{Parameter}
@@ -325,6 +325,11 @@ effective_boolean (node_view text ∷ rest) = Some true
 effective_boolean (atomic_view a ∷ []) = Some (effective_boolean_value a.value)
 effective_boolean (atomic_view a ∷ b ∷ rest) = None
 
+-- the value of an effective boolean value: one boolean is itself, under its own type
+abbrev pub boolean_atom : List ItemView → Bool → Atomic
+boolean_atom (atomic_view a ∷ []) truth = if is_boolean_value a.value then a else truth_atom truth
+boolean_atom views truth = truth_atom truth
+
 abbrev pub has_no_item : List ItemView → Bool
 has_no_item [] = true
 has_no_item (item ∷ rest) = false
@@ -360,7 +365,7 @@ item_function_of function = None
 abbrev pub applied : Function → List (List ItemView) → Option (Result (List Atomic) Code)
 applied functions.True [] = Some (one_answer (truth_atom true))
 applied functions.False [] = Some (one_answer (truth_atom false))
-applied functions.Boolean (items ∷ []) = option_map (λ truth. one_answer (truth_atom truth)) (effective_boolean items)
+applied functions.Boolean (items ∷ []) = option_map (λ truth. one_answer (boolean_atom items truth)) (effective_boolean items)
 applied functions.Not (items ∷ []) = option_map (λ truth. one_answer (truth_atom (not truth))) (effective_boolean items)
 applied functions.Count (items ∷ []) = Some (one_answer (integer_atom (pos (length items))))
 applied functions.Empty (items ∷ []) = Some (one_answer (truth_atom (has_no_item items)))

@@ -34,7 +34,7 @@ use Rattle.gx_normal.specs.declared.filters.Predicate.TheVariants as predicates
 use Rattle.gx_normal.specs.Contexts.{asks_context, path_use, predicate_use, no_focus, focus_with, behind_context}
 use Rattle.gx_normal.specs.Filters.{predicate_of, is_reverse_step, filtered_by}
 use Rattle.gx_normal.specs.Normalisation.{number_at, constructed, is_to_descendants, left_of_path, core_of, construct_core, cores_of, clauses_core, branch_core, path_core, predicates_core, filtered_core, external_binder, declared_function, function_core, declarations_of, behind_declarations, main_core, is_kept_part, parts_with}
-use Rattle.gx_normal.proofs.NumberedConstructs.{Rise, rise_joined, rising_distinct, IsNumbered, numbers_of, found_among, within_numbered, data_numbered, boolean_numbered, cast_numbered, castable_numbered, signed_numbered, sequence_numbered, conditional_numbered, AreNumbered, rising_order, least, empty_numbered, one_numbered, two_numbered, three_numbered, joining_numbered, call_numbered, instance_numbered, treat_numbered, typeswitch_numbered, case_numbered, default_numbered, constructor_numbered, user_call_numbered, parameters_covered, parameters_rise, have_types}
+use Rattle.gx_normal.proofs.NumberedConstructs.{Rise, rise_joined, not_among, rising_distinct, IsNumbered, numbers_of, found_among, within_numbered, data_numbered, boolean_numbered, cast_numbered, castable_numbered, signed_numbered, sequence_numbered, conditional_numbered, AreNumbered, rising_order, least, empty_numbered, one_numbered, two_numbered, three_numbered, joining_numbered, call_numbered, instance_numbered, treat_numbered, typeswitch_numbered, case_numbered, default_numbered, constructor_numbered, user_call_numbered, parameters_covered, parameters_rise, have_types}
 use Rattle.gx_normal.proofs.NumberedContexts.{let_numbered, for_numbered, for_position_numbered, quantifier_numbered, clause_in_front_numbered, key_in_front_numbered, sorted_numbered, IsCovered, among_itself, covered_more, covered_turned, scope_with, there, covered_with, covered_without, covered_by, found_numbered, context_item_numbered, step_numbered, path_numbered, behind_some, filtered_by_numbered}
 
 module _ (signatures : Signatures) where
@@ -355,11 +355,13 @@ module _ (signatures : Signatures) where
       let body = core_of signatures tree behind.0 (no_focus greatest blanks) behind.1 in
       let numbered = core_numbered tree (numbers_of behind.0) behind.0 (no_focus greatest blanks) behind.1 (covered_without behind.0 greatest blanks)
       (rising_order 1 behind.1 (declared_numbers (declarations_of signatures (no_focus greatest blanks) ds [] 1)) (variables_rising greatest blanks ds [] 1 (omega arith))) in
+      let rising : Rise 1 body.1 (declared_numbers (declarations_of signatures (no_focus greatest blanks) ds [] 1) ++ numbers_bound body.0) =
+      rise_joined 1 behind.1 body.1 (declared_numbers (declarations_of signatures (no_focus greatest blanks) ds [] 1)) (numbers_bound body.0) (variables_rising greatest blanks ds [] 1 (omega arith)) numbered.rising in
       record {
         values = values_scoped greatest blanks ds [] 1 (omega arith);
         body = subst (λ (scope : List ℕ). IsScoped scope body.0) (sym (scope_is greatest blanks ds [] 1)) numbered.scoped;
-        once = rising_distinct 1 body.1 (declared_numbers (declarations_of signatures (no_focus greatest blanks) ds [] 1) ++ numbers_bound body.0)
-            (rise_joined 1 behind.1 body.1 (declared_numbers (declarations_of signatures (no_focus greatest blanks) ds [] 1)) (numbers_bound body.0) (variables_rising greatest blanks ds [] 1 (omega arith)) numbered.rising);
+        once = rising_distinct 1 body.1 (declared_numbers (declarations_of signatures (no_focus greatest blanks) ds [] 1) ++ numbers_bound body.0) rising;
+        none = not_among 1 body.1 0 (declared_numbers (declarations_of signatures (no_focus greatest blanks) ds [] 1) ++ numbers_bound body.0) (omega arith) rising;
         externals = have_values greatest blanks ds [] 1;
       }
 

@@ -3,6 +3,7 @@ use Rattle.std.specs.Prelude.{List, [], ◌∷◌, map, option_map}
 use Rattle.gx_types.specs.SequenceType.{SequenceType}
 use Rattle.gx_core.specs.declared.expression.Query.{Query}
 use Rattle.gx_core.specs.declared.expression.Declaration.{Declaration}
+use Rattle.gx_core.specs.declared.expression.DeclaredFunction.{DeclaredFunction}
 use Rattle.gx_core.specs.declared.expression.Declaration.TheVariants.{Global, Function}
 use Rattle.gx_core.specs.Expression.{Expression, At, Parts, no_parts, a_part, annotation_of}
 use Rattle.gx_core.specs.Queries.{TypedCore}
@@ -12,6 +13,12 @@ use Rattle.gx_plan.specs.declared.plan.Carried.{Carried}
 
 abbrev pub PlanExpression : Type 0
 PlanExpression = Expression Carried
+
+abbrev pub FunctionOfPlan : Type 0
+FunctionOfPlan = DeclaredFunction Carried
+
+abbrev pub DeclarationOfPlan : Type 0
+DeclarationOfPlan = Declaration Carried
 
 abbrev pub PlanQuery : Type 0
 PlanQuery = Query Carried

@@ -1,6 +1,6 @@
 // Plans: typed Core without operators that typing alone needs, in which some loops are marked as joins.
 
-use gx_core::expression::{Clause, Declaration, Expr, Part, Query};
+use gx_core::expression::{Clause, Declaration, DeclaredFunction, Expr, Part, Query, SortKey};
 use gx_core::scope::Scope;
 use gx_types::sequence_type::Ty;
 
@@ -41,12 +41,21 @@ pub type PlanPart = Part<Carried>;
 /// A clause of a block of a plan.
 pub type PlanClause = Clause<Carried>;
 
+/// A key of a block of a plan.
+pub type PlanKey = SortKey<Carried>;
+
+/// A function of a plan.
+pub type PlanFunction = DeclaredFunction<Carried>;
+
 /// A declaration of a plan.
 pub type PlanDeclaration = Declaration<Carried>;
+
+/// A query of a plan, its declarations and its body.
+pub type PlanQuery = Query<Carried>;
 
 /// A query as it is to be evaluated: its declarations and its body, and the types that its variables carry.
 #[derive(Drop)]
 pub struct Plan {
-    pub query: Query<Carried>,
+    pub query: PlanQuery,
     pub variables: Scope<Ty>,
 }

@@ -49,7 +49,8 @@ use Rattle.gx_demo.specs.Workload.{workload_files}
 use Rattle.gx_processor.specs.FaultLines.{line, usage_line, left_type_line, right_type_line, read_fault_line, code_line, placed_line, binding_line, long_document_line, document_line, invalid_line, import_line, shown_with}
 use Rattle.gx_processor.specs.Serialisation.{serialised}
 use Rattle.gx_plan.specs.declared.plan.Plan.{Plan}
-use Rattle.gx_rewrite.specs.Rewriting.{setting_of, PlansCanBeRewritten}
+use Rattle.gx_rules.specs.Normal.{setting_of}
+use Rattle.gx_rewrite.specs.Rewriting.{PlansCanBeRewritten}
 use Rattle.gx_processor.specs.TypeBytes.{type_bytes}
 use Rattle.gx_processor.specs.PlanBytes.{plan_bytes, compiled_plan}
 use Rattle.gx_processor.specs.Answer.{Answer, writes, refuses, can_be_written, AnswersTexts, AnswersOutcome, AnswersEvaluated, AnswersRead, AnswersKept, AnswersLoaded, AnswersFiles, AnswersBound, AnswersTyped, AnswersJudged, AnswersNamed, AnswersImported, AnswersSources, AnswersSchemas, AnswersParsed, AnswersBytes, AnswersFile, AnswersCommand, AnswersWords, AnAnswerExists, with_line_feed, workload_command, AnswersWorkload}

@@ -21,6 +21,7 @@ use Rattle.std.specs.Bool.{IsTrue}
 use Rattle.gx_types.specs.SequenceType.{SequenceType, item}
 use Rattle.gx_tree.specs.PlainTree.{PlainTree}
 use Rattle.gx_model.specs.Forest.{Forest, node_in}
+use Rattle.gx_model.specs.Honest.{IsHonest}
 use Rattle.gx_model.specs.Item.{node, Items}
 use Rattle.gx_model.specs.Belongs.{Belongs, shape_of}
 use Rattle.gx_core.specs.Queries.{TypedCore, CoreDeclaration}
@@ -109,10 +110,15 @@ kept_is_not_wrong setting before t (gives items forest) k = λ e. cc
 kept_is_not_wrong setting before t (raises code) k = λ e. cc
 kept_is_not_wrong setting before t wrong k = absurd k
 
+pub documents_honest : DocumentsAreHonest → (schemas : SchemaSet) (core : TypedCore) (forest : Forest) → IsSchemaSet schemas → ExternalsAreDocuments schemas (plain_query core).declarations
+    → AreDocumentsOf schemas (plain_query core).declarations forest → IsHonest schemas forest
+documents_honest honest schemas core forest invariant externals documents =
+    honest schemas (documents_asked (plain_query core).declarations documents.names) forest invariant (asked_are_global schemas (plain_query core).declarations documents.names externals) documents.trees
+
 pub sound_is_not_wrong : SoundQueriesKeepTheirTypes → DocumentsAreHonest → DocumentsAreAsAsked → (schemas : SchemaSet) (core : TypedCore) (forest : Forest) → IsSchemaSet schemas → IsSoundQuery schemas core
     → ExternalsAreDocuments schemas (plain_query core).declarations → AreDocumentsOf schemas (plain_query core).declarations forest → query_outcome schemas (plain_query core) (document_nodes forest) forest ≢ wrong
 sound_is_not_wrong keep honest fits schemas core forest invariant sound externals documents =
     kept_is_not_wrong (typed_setting schemas) forest (query_type core) (query_outcome schemas (plain_query core) (document_nodes forest) forest)
     (keep ACTIVE_CALLS schemas core (document_nodes forest) forest
-    (honest schemas (documents_asked (plain_query core).declarations documents.names) forest invariant (asked_are_global schemas (plain_query core).declarations documents.names externals) documents.trees)
+    (documents_honest honest schemas core forest invariant externals documents)
     (documents_fit fits schemas invariant (plain_query core).declarations forest externals documents) sound)

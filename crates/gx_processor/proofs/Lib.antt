@@ -19,3 +19,4 @@ pub mod AnswerExists
 pub mod Replying
 pub mod WholeQueries
 pub mod KnownTypes
+pub mod PlanRuns

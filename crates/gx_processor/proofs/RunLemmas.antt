@@ -8,11 +8,12 @@ use Rattle.gx_base.specs.declared.code.Code.TheVariants.{SENR0001}
 use Rattle.gx_base.specs.Code.{is_dynamic}
 use Rattle.gx_base.specs.declared.place.Place.{Place}
 use Rattle.gx_types.specs.SchemaSet.{SchemaSet}
-use Rattle.gx_core.specs.Queries.{Core, TypedCore}
+use Rattle.gx_core.specs.Queries.{TypedCore}
 use Rattle.gx_core.specs.Expression.{outer_of}
 use Rattle.gx_core.specs.Outcome.{raises}
-use Rattle.gx_core.specs.QueryMeaning.{plain_query, query_outcome}
-use Rattle.gx_core.proofs.DynamicCodes.{queries_raise_dynamic_codes}
+use Rattle.gx_core.specs.QueryMeaning.{plain_query, QueryMeaningLooksAtNoType, QueriesRaiseDynamicCodes}
+use Rattle.gx_plan.specs.Plan.{PlanQuery, typed_query}
+use Rattle.gx_plan.specs.PlanMeaning.{plan_outcome, PlansHaveTheOutcomeOfTheirTypedCore}
 use Rattle.gx_tree.specs.PlainTree.{PlainTree}
 use Rattle.gx_model.specs.Forest.{PlainNode, Forest}
 use Rattle.gx_io.specs.LibraryUse.{LibraryUse}
@@ -32,7 +33,7 @@ use Rattle.gx_processor.specs.Externals.{external_words, documents_asked, docume
 use Rattle.gx_processor.specs.FaultLines.{placed_line}
 use Rattle.gx_processor.specs.Loading.{BoundLoads, RunLoads, AreBoundFiles, AreFirstOf}
 use Rattle.gx_processor.specs.Replies.{RefusesSo, NamesOneOf, OutcomeLoads, AreFirst}
-use Rattle.gx_processor.specs.RunReplies.{AnswersSo, IsOfRun, FailsAtDocument, IsMisboundSo, IsEvaluated, unread, BindFiles, Follows, ReadSo, RunsSo}
+use Rattle.gx_processor.specs.RunReplies.{AnswersSo, IsOfRun, FailsAtDocument, IsMisboundSo, IsEvaluated, unread, or_unread, BindFiles, IsReadSo, RunsOver, RunsSo}
 use Rattle.std.proofs.lemmas.Slice.Eq.{bytes_eq-Decides}
 use Rattle.gx_processor.proofs.AskedDocuments.{files_of_bound}
 use Rattle.gx_processor.proofs.QueryLemmas.{refuses_through}
@@ -286,16 +287,17 @@ module _ (library : LibraryUse) (bindings : List (List ℕ)) (schemas : SchemaSe
     own = evaluated_own result own;
   }
 
-  run_follows : {Z : Type 0} (read : Result Forest DocumentsError) (result : Result (String Z) Refusal) → can_be_written schemas core ≡ true → misbound externals bindings ≡ None → ReadDocuments library schemas (documents_bound (plain_query core).declarations bindings) read
-      → Follows schemas (plain_query core) read result → RunsSo library bindings schemas core result
-  run_follows (Ok forest) result yes' found h k = run_evaluated forest result yes' found h k.0 k.1
-  run_follows (Err error) result yes' found h k = subst (λ r. RunsSo library bindings schemas core r) (sym k) (run_refused error yes' found h)
+  run_read : (Z : Type 0) (read : Result Forest DocumentsError) → can_be_written schemas core ≡ true → misbound externals bindings ≡ None
+      → ReadDocuments library schemas (documents_bound (plain_query core).declarations bindings) read → RunsOver Z library bindings schemas core (or_unread read)
+  run_read Z (Ok forest) yes' found h = λ result answers own. run_evaluated forest result yes' found h answers own
+  run_read Z (Err error) yes' found h = run_refused error yes' found h
 
-  pub run_over_documents : {Z : Type 0} (asked : List Asked) (names : List (List ℕ)) (result : Result (String Z) Refusal) → can_be_written schemas core ≡ true → BindFiles (plain_query core).declarations bindings names
-      → asked ≡ documents_asked (plain_query core).declarations names → ReadSo library asked schemas (plain_query core) result → RunsSo library bindings schemas core result
-  run_over_documents asked names result yes' b same h =
+  pub run_over_documents : (Z : Type 0) (asked : List Asked) (names : List (List ℕ)) (result : Result Forest Refusal) → can_be_written schemas core ≡ true → BindFiles (plain_query core).declarations bindings names
+      → asked ≡ documents_asked (plain_query core).declarations names → IsReadSo library asked schemas result → RunsOver Z library bindings schemas core result
+  run_over_documents Z asked names result yes' b same h =
       let all = same ∙ ap (documents_asked (plain_query core).declarations) b.named in
-      run_follows h.read result yes' b.bound (subst (λ (some : List Asked). ReadDocuments library schemas some h.read) all h.reads) h.follows
+      subst (λ (r : Result Forest Refusal). RunsOver Z library bindings schemas core r) (sym h.same)
+      (run_read Z h.read yes' b.bound (subst (λ (some : List Asked). ReadDocuments library schemas some h.read) all h.reads))
 
   -- the words bind wrongly, or memory is wanting
   pub misbound_so : {Z : Type 0} (e : Refusal) → library.after ≡ library.before → can_be_written schemas core ≡ true → IsMisboundSo (misbound externals bindings) e → RunsSo {Z = Z} library bindings schemas core (Err e)
@@ -309,6 +311,9 @@ module _ (library : LibraryUse) (bindings : List (List ℕ)) (schemas : SchemaSe
   misbound_so (refusal.Document file fault) untouched yes' h = absurd h
   misbound_so (refusal.Dynamic code) untouched yes' h = absurd h
 
--- an evaluation raises the code of a dynamic error
-pub dynamic_error : (schemas : SchemaSet) (core : Core) (documents : List PlainNode) (forest : Forest) (code : Code) → query_outcome schemas core documents forest ≡ raises code → is_dynamic code ≡ true
-dynamic_error schemas core documents forest code h = queries_raise_dynamic_codes ACTIVE_CALLS schemas core documents forest code h
+-- the evaluation of a plan raises the code of a dynamic error
+pub dynamic_error : QueriesRaiseDynamicCodes → QueryMeaningLooksAtNoType → PlansHaveTheOutcomeOfTheirTypedCore → (schemas : SchemaSet) (plan : PlanQuery) (documents : List PlainNode) (forest : Forest) (code : Code)
+    → plan_outcome schemas plan documents forest ≡ raises code → is_dynamic code ≡ true
+dynamic_error dynamic looks same schemas plan documents forest code h =
+    dynamic ACTIVE_CALLS schemas (plain_query (typed_query plan)) documents forest code
+    (looks ACTIVE_CALLS schemas (typed_query plan) documents forest ∙ sym (same ACTIVE_CALLS schemas plan documents forest) ∙ h)

@@ -7,8 +7,7 @@ use Rattle.gx_plan.specs.declared.plan.Plan.{Plan}
 use Rattle.gx_plan.specs.Compiling.{compiled_query}
 use Rattle.gx_plan.specs.Variables.{variables_of_query}
 use Rattle.gx_plantext.specs.PlanText.{plan_text}
-use Rattle.gx_rules.specs.Normal.{IsRewritten}
-use Rattle.gx_rewrite.specs.Rewriting.{setting_of}
+use Rattle.gx_rules.specs.Normal.{IsRewritten, setting_of}
 use Rattle.gx_processor.specs.FaultLines.{line}
 
 abbrev pub plan_bytes : Plan → List ℕ

@@ -2,7 +2,7 @@
 use Rattle.std.specs.Prelude.{◌≡◌, ℕ, true, List, Option, None, Some, IfSome, IfErr, Result, Ok, Err, String}
 use Rattle.std.specs.String.{string_bytes}
 use Rattle.gx_base.specs.Code.{is_dynamic, is_static}
-use Rattle.gx_core.specs.Queries.{Core, TypedCore, CoreDeclaration}
+use Rattle.gx_core.specs.Queries.{TypedCore, CoreDeclaration}
 use Rattle.gx_core.specs.QueryMeaning.{plain_query, query_type}
 use Rattle.gx_processor.specs.Command.{Command, run_file, check_file, plan_file}
 use Rattle.gx_types.specs.SchemaSet.{SchemaSet}
@@ -79,15 +79,22 @@ abbrev pub unread : DocumentsError → Refusal
 unread (Failed file fault) = refusal.Document file fault
 unread NoMemory = refusal.Memory
 
--- how a run goes on behind the reading of its documents
-abbrev pub Follows : {Z : Type 0} → SchemaSet → Core → Result Forest DocumentsError → Result (String Z) Refusal → Type 0
-Follows schemas core (Ok forest) result = AnswersSo (AnswersEvaluated schemas core forest) result × IsEvaluated result
-Follows schemas core (Err error) result = result ≡ Err (unread error)
+abbrev pub or_unread : Result Forest DocumentsError → Result Forest Refusal
+or_unread (Ok forest) = Ok forest
+or_unread (Err error) = Err (unread error)
 
-pub record ReadSo {Z : Type 0} (library : LibraryUse) (asked : List Asked) (schemas : SchemaSet) (core : Core) (result : Result (String Z) Refusal) : Type 0 where
+-- the trees of the documents that are asked for, or a refusal
+pub record IsReadSo (library : LibraryUse) (asked : List Asked) (schemas : SchemaSet) (result : Result Forest Refusal) : Type 0 where
   pub read : Result Forest DocumentsError
   pub reads : ReadDocuments library schemas asked read
-  pub follows : Follows schemas core read result
+  pub same : result ≡ or_unread read
+
+-- what a run says behind the reading of its documents, whatever their evaluation answers; a refusal is that of the run
+abbrev pub RunsOver : (Z : Type 0) → LibraryUse → (bindings : List (List ℕ)) → SchemaSet → TypedCore → Result Forest Refusal → Type 0
+RunsOver Z library bindings schemas core (Ok forest) =
+    (result : Result (String Z) Refusal) → AnswersSo (AnswersEvaluated schemas (plain_query core) forest) result → IsEvaluated result
+    → RunsSo library bindings schemas core result
+RunsOver Z library bindings schemas core (Err refused) = RunsSo {Z = Z} library bindings schemas core (Err refused)
 
 -- a check or a plan is written, or memory is wanting
 abbrev pub IsWrittenOrStarved : {V : Type 0} → Result V Refusal → Type 0

@@ -2,6 +2,7 @@
 
 ghost use Rattle.std.specs.Prelude.{◌≡◌, ◌≤◌, IfOk, IfErr, IfSome, Some, string_bytes};
 ghost use Rattle.gx_core.specs.QueryMeaning.{plain_query, query_type, IsSoundQuery};
+ghost use Rattle.gx_rule_laws.specs.TypedQueries.{IsTypedWell};
 ghost use Rattle.gx_types.specs.SchemaInvariant.{IsSchemaSet};
 ghost use Rattle.gx_processor.specs.ExternalDocuments.{ExternalsAreDocuments};
 ghost use Rattle.gx_processor.specs.RunReplies.{TypedSo};
@@ -58,6 +59,7 @@ fn typed_output<L: Library>(
     library: &mut L,
 ) -> Result<String, Refusal>
     requires schemas { IsSchemaSet query.schemas }
+    requires well { IsTypedWell query.schemas query.core }
     requires sound { IsSoundQuery query.schemas query.core }
     requires externals { ExternalsAreDocuments query.schemas (plain_query query.core).declarations }
     ensures told { L.files library.new ≡ L.files library.old }

@@ -12,6 +12,7 @@ ghost use Rattle.gx_io.specs.Load.{file_of};
 ghost use Rattle.gx_parse_grammar.specs.Query.{Parses, parsed};
 ghost use Rattle.gx_processor.specs.Answer.{AnswersFile, AnswersBytes, AnswersNamed, AnswersJudged};
 ghost use Rattle.gx_documents.specs.Documents.{Files};
+ghost use Rattle.gx_rule_laws.specs.TypedQueries.{IsTypedWell};
 ghost use Rattle.gx_types.specs.SchemaInvariant.{IsSchemaSet};
 ghost use Rattle.gx_processor.specs.ExternalDocuments.{ExternalsAreDocuments};
 ghost use Rattle.gx_processor.specs.Command.{Command};
@@ -21,7 +22,7 @@ ghost use Rattle.gx_processor.specs.Replies.{RefusesSo, IsOfRules, IsOfText};
 ghost use Rattle.gx_processor.specs.RuleCode.{rule_code};
 
 use crate::imports::imported_schemas;
-use crate::laws::named_queries_have_documents;
+use crate::laws::{named_queries_have_documents, named_queries_name_written_types};
 use crate::refusal::Refusal;
 use gx_ast::dismantle::dismantle;
 use gx_ast::query::{Definition, DefinitionNode, Initialiser, Query};
@@ -57,6 +58,7 @@ pub fn typed_query<L: Library>(
     ensures told { L.files library.new ≡ L.files library.old }
     ensures counted { L.faults library.old ≤ L.faults library.new }
     ensures typed { IfOk result (λ query. query_judged query.schemas (plain_query query.core) ≡ query_typed query.core) }
+    ensures well { IfOk result (λ query. IsTypedWell query.schemas query.core) }
     ensures sound { IfOk result (λ query. IsSoundQuery query.schemas query.core) }
     ensures set { IfOk result (λ query. IsSchemaSet query.schemas) }
     ensures externals { IfOk result (λ query. ExternalsAreDocuments query.schemas (plain_query query.core).declarations) }
@@ -73,6 +75,7 @@ fn query_of<L: Library>(alloc: Global, tree: Query, library: &mut L) -> Result<T
     ensures told { L.files library.new ≡ L.files library.old }
     ensures counted { L.faults library.old ≤ L.faults library.new }
     ensures typed { IfOk result (λ query. query_judged query.schemas (plain_query query.core) ≡ query_typed query.core) }
+    ensures well { IfOk result (λ query. IsTypedWell query.schemas query.core) }
     ensures sound { IfOk result (λ query. IsSoundQuery query.schemas query.core) }
     ensures set { IfOk result (λ query. IsSchemaSet query.schemas) }
     ensures externals { IfOk result (λ query. ExternalsAreDocuments query.schemas (plain_query query.core).declarations) }
@@ -92,6 +95,7 @@ fn query_under(alloc: Global, tree: Query, schemas: Schemas) -> Result<TypedQuer
     ensures schemas { IfOk result (λ query. query.schemas ≡ schemas) }
     ensures named { IfOk result (λ query. query_named schemas tree ≡ named_query (plain_query query.core)) }
     ensures typed { IfOk result (λ query. query_judged query.schemas (plain_query query.core) ≡ query_typed query.core) }
+    ensures well { IfOk result (λ query. IsTypedWell query.schemas query.core) }
     ensures sound { IfOk result (λ query. IsSoundQuery query.schemas query.core) }
     ensures set { IfOk result (λ query. IsSchemaSet query.schemas) }
     ensures externals { IfOk result (λ query. ExternalsAreDocuments query.schemas (plain_query query.core).declarations) }
@@ -99,6 +103,7 @@ fn query_under(alloc: Global, tree: Query, schemas: Schemas) -> Result<TypedQuer
     ensures cause { IfErr result IsOfRules }
 {
     named_queries_have_documents();
+    named_queries_name_written_types();
     let named = core_of(alloc, &schemas, tree)?;
     let core = typed_core(alloc, &schemas, named)?;
     Ok(TypedQuery { schemas, core })

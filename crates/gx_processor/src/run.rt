@@ -1,8 +1,9 @@
 // Runs of queries that have a type.
 
-ghost use Rattle.std.specs.Prelude.{◌≡◌, ◌<◌, ℕ, List, All, IfOk, IfErr, length, map, option_map, MatchResult, None, true, string_bytes, ◌≤◌};
-ghost use Rattle.gx_core.specs.Outcome.{gives};
-ghost use Rattle.gx_core.specs.QueryMeaning.{plain_declaration, plain_query, query_outcome, IsSoundQuery};
+ghost use Rattle.std.specs.Global.{Global};
+ghost use Rattle.std.specs.Prelude.{◌≡◌, ◌≢◌, ◌<◌, ℕ, List, All, IfOk, IfErr, length, map, option_map, MatchResult, None, true, string_bytes, ◌≤◌};
+ghost use Rattle.gx_core.specs.Outcome.{gives, wrong};
+ghost use Rattle.gx_core.specs.QueryMeaning.{plain_declaration, plain_query, IsSoundQuery};
 ghost use Rattle.gx_core.specs.Refusal.{Fails};
 ghost use Rattle.gx_documents.specs.BindingView.{word_bytes};
 ghost use Rattle.gx_documents.specs.Bindings.{files_bound, misbound, word_of_name};
@@ -15,11 +16,15 @@ ghost use Rattle.gx_store.specs.Items.{items_in};
 ghost use Rattle.gx_store.specs.Places.{node_places};
 ghost use Rattle.gx_types.specs.SchemaInvariant.{IsSchemaSet};
 ghost use Rattle.gx_processor.specs.ExternalDocuments.{AreDocumentsOf, ExternalsAreDocuments, IsAskedOfEach};
-ghost use Rattle.gx_processor.specs.Answer.{writable_type, can_be_written, AnswersEvaluated};
+ghost use Rattle.gx_plan.specs.PlanMeaning.{plan_outcome};
+ghost use Rattle.gx_rules.specs.Normal.{IsNormalPlan};
+ghost use Rattle.gx_rule_laws.specs.TypedQueries.{IsTypedWell};
+ghost use Rattle.gx_processor.specs.Answer.{writable_type, can_be_written, AnswersEvaluated, AnswersOutcome};
 ghost use Rattle.gx_processor.specs.Command.{bytes_of};
 ghost use Rattle.gx_processor.specs.Externals.{documents_asked, external_words, root_asked, root_named};
-ghost use Rattle.gx_processor.specs.RunReplies.{AnswersSo, BindFiles, IsEvaluated, IsMisboundSo, ReadSo, RunsSo, unread};
+ghost use Rattle.gx_processor.specs.RunReplies.{AnswersSo, BindFiles, IsEvaluated, IsMisboundSo, IsReadSo, RunsOver, RunsSo, unread};
 
+use crate::plan::{dismantle_plan, plan_of};
 use crate::query::TypedQuery;
 use crate::refusal::Refusal;
 use crate::serialise::serialise;
@@ -30,7 +35,9 @@ use gx_base::type_name::{Builtin, TypeName};
 use gx_core::dismantle::dismantle_query;
 use gx_core::dyn_error::DynError;
 use gx_core::expression::{TypedCore, TypedDeclaration};
-use gx_core::laws::sound_queries_keep_their_types;
+use gx_core::laws::{
+    queries_raise_dynamic_codes, query_meaning_looks_at_no_type, sound_queries_keep_their_types,
+};
 use gx_documents::bindings::{BindingError, bound_files};
 use gx_documents::documents::{
     DocumentForm, DocumentRequest, DocumentsError, document_nodes, read_documents,
@@ -39,6 +46,9 @@ use gx_documents::laws::{documents_are_as_asked, documents_are_honest};
 use gx_eval::evaluator::evaluate;
 use gx_include::decision::is_included;
 use gx_io::Library;
+use gx_plan::laws::plans_have_the_outcome_of_their_typed_core;
+use gx_plan::plan::Plan;
+use gx_rule_laws::laws::rewritten_plans_have_the_outcome;
 use gx_store::item::Item;
 use gx_store::number::NodeId;
 use gx_store::store::Store;
@@ -57,6 +67,7 @@ pub fn run<L: Library>(
     library: &mut L,
 ) -> Result<String, Refusal>
     requires schemas { IsSchemaSet query.schemas }
+    requires well { IsTypedWell query.schemas query.core }
     requires sound { IsSoundQuery query.schemas query.core }
     requires externals { ExternalsAreDocuments query.schemas (plain_query query.core).declarations }
     ensures told { L.files library.new ≡ L.files library.old }
@@ -64,27 +75,32 @@ pub fn run<L: Library>(
     ensures runs { RunsSo (library_use L.files L.faults L.was_loaded library.old library.new) (bytes_of words.now) query.schemas query.core result }
 {
     let TypedQuery { schemas, core } = query;
-    let answer = value_text(alloc, &schemas, &core, words, library);
-    dismantle_query(alloc, core);
-    answer
+    match documents_of(alloc, &schemas, &core, words, library) {
+        Ok(store) => value_text(alloc, &schemas, core, store),
+        Err(refusal) => {
+            dismantle_query(alloc, core);
+            Err(refusal)
+        }
+    }
 }
 
-fn value_text<L: Library>(
+// The documents of a query whose value can be written.
+fn documents_of<L: Library>(
     alloc: Global,
     schemas: &Schemas,
     core: &TypedCore,
     words: &[String],
     library: &mut L,
-) -> Result<String, Refusal>
+) -> Result<Store, Refusal>
     requires schemas { IsSchemaSet schemas.now }
-    requires sound { IsSoundQuery schemas.now core.now }
     requires externals { ExternalsAreDocuments schemas.now (plain_query core.now).declarations }
     ensures told { L.files library.new ≡ L.files library.old }
     ensures counted { L.faults library.old ≤ L.faults library.new }
-    ensures runs { RunsSo (library_use L.files L.faults L.was_loaded library.old library.new) (bytes_of words.now) schemas.now core.now result }
+    ensures documents { IfOk result (λ store. AreDocumentsOf schemas.now (plain_query core.now).declarations store) }
+    ensures runs { RunsOver Global (library_use L.files L.faults L.was_loaded library.old library.new) (bytes_of words.now) schemas.now core.now result }
 {
     match is_writable(alloc, schemas, &core.body.kind) {
-        Ok(true) => on_documents(alloc, schemas, core, words, library),
+        Ok(true) => bound_documents(alloc, schemas, core, words, library),
         Ok(false) => Err(Refusal::Query {
             code: Code::SENR0001,
             place: core.body.outer,
@@ -93,71 +109,71 @@ fn value_text<L: Library>(
     }
 }
 
-// The value of a query whose value can be written.
-fn on_documents<L: Library>(
+// The documents that the words bind.
+fn bound_documents<L: Library>(
     alloc: Global,
     schemas: &Schemas,
     core: &TypedCore,
     words: &[String],
     library: &mut L,
-) -> Result<String, Refusal>
+) -> Result<Store, Refusal>
     requires schemas { IsSchemaSet schemas.now }
-    requires sound { IsSoundQuery schemas.now core.now }
     requires externals { ExternalsAreDocuments schemas.now (plain_query core.now).declarations }
     requires writable { can_be_written schemas.now core.now ≡ true }
     ensures told { L.files library.new ≡ L.files library.old }
     ensures counted { L.faults library.old ≤ L.faults library.new }
-    ensures runs { RunsSo (library_use L.files L.faults L.was_loaded library.old library.new) (bytes_of words.now) schemas.now core.now result }
+    ensures documents { IfOk result (λ store. AreDocumentsOf schemas.now (plain_query core.now).declarations store) }
+    ensures runs { RunsOver Global (library_use L.files L.faults L.was_loaded library.old library.new) (bytes_of words.now) schemas.now core.now result }
 {
     match files_of(alloc, core, words) {
-        Ok(files) => on_files(alloc, schemas, core, files.as_slice(), library),
+        Ok(files) => documents_in(alloc, schemas, core, files.as_slice(), library),
         Err(refusal) => Err(refusal),
     }
 }
 
-// The value over the documents in files, one for each external variable.
-fn on_files<L: Library>(
+// The documents in files, one for each external variable.
+fn documents_in<L: Library>(
     alloc: Global,
     schemas: &Schemas,
     core: &TypedCore,
     files: &[String],
     library: &mut L,
-) -> Result<String, Refusal>
+) -> Result<Store, Refusal>
     requires schemas { IsSchemaSet schemas.now }
-    requires sound { IsSoundQuery schemas.now core.now }
     requires externals { ExternalsAreDocuments schemas.now (plain_query core.now).declarations }
     requires writable { can_be_written schemas.now core.now ≡ true }
     requires each { length (word_bytes files.now) ≡ length (external_words (plain_query core.now).declarations) }
     ensures told { L.files library.new ≡ L.files library.old }
     ensures counted { L.faults library.old ≤ L.faults library.new }
+    ensures documents { IfOk result (λ store. AreDocumentsOf schemas.now (plain_query core.now).declarations store) }
     ensures runs { (bindings : List (List ℕ)) → BindFiles (plain_query core.now).declarations bindings (word_bytes files.now)
-        → RunsSo (library_use L.files L.faults L.was_loaded library.old library.new) bindings schemas.now core.now result }
+        → RunsOver Global (library_use L.files L.faults L.was_loaded library.old library.new) bindings schemas.now core.now result }
 {
     let declarations = core.declarations.as_slice();
     match document_requests(alloc, declarations, files) {
-        Ok(requests) => over_documents(alloc, schemas, core, requests.as_slice(), library),
+        Ok(requests) => documents_asked(alloc, schemas, core, requests.as_slice(), library),
         Err(AllocError) => Err(Refusal::Memory),
     }
 }
 
-// The value over the documents that are asked for.
-fn over_documents<L: Library>(
+// The documents that are asked for.
+fn documents_asked<L: Library>(
     alloc: Global,
     schemas: &Schemas,
     core: &TypedCore,
     requests: &[DocumentRequest<'_>],
     library: &mut L,
-) -> Result<String, Refusal>
+) -> Result<Store, Refusal>
     requires schemas { IsSchemaSet schemas.now }
-    requires sound { IsSoundQuery schemas.now core.now }
     requires externals { ExternalsAreDocuments schemas.now (plain_query core.now).declarations }
     requires each { IsAskedOfEach (plain_query core.now).declarations (all_asked requests.now) }
     ensures told { L.files library.new ≡ L.files library.old }
     ensures counted { L.faults library.old ≤ L.faults library.new }
-    ensures read { ReadSo (library_use L.files L.faults L.was_loaded library.old library.new) (all_asked requests.now) schemas.now (plain_query core.now) result }
+    ensures documents { IfOk result (λ store. AreDocumentsOf schemas.now (plain_query core.now).declarations store) }
+    ensures read { IsReadSo (library_use L.files L.faults L.was_loaded library.old library.new) (all_asked requests.now) schemas.now result }
 {
     match read_documents(alloc, schemas, requests, library) {
-        Ok(store) => written(alloc, schemas, core, store),
+        Ok(store) => Ok(store),
         Err(error) => Err(unread(error)),
     }
 }
@@ -312,45 +328,76 @@ fn writable_type(alloc: Global) -> Result<Ty, AllocError>
     star(alloc, &members)
 }
 
-// The serialisation of the value over the trees of documents.
-#[tactic(auto, using(crate::proofs::RunLemmas::dynamic_error))]
-fn written(
+// The serialisation of the value of a query over the trees of its documents. The query ends here.
+fn value_text(
     alloc: Global,
     schemas: &Schemas,
-    core: &TypedCore,
+    core: TypedCore,
     store: Store,
 ) -> Result<String, Refusal>
     requires schemas { IsSchemaSet schemas.now }
-    requires sound { IsSoundQuery schemas.now core.now }
-    requires externals { ExternalsAreDocuments schemas.now (plain_query core.now).declarations }
-    requires documents { AreDocumentsOf schemas.now (plain_query core.now).declarations store }
-    ensures answers { AnswersSo (AnswersEvaluated schemas.now (plain_query core.now) store) result }
+    requires well { IsTypedWell schemas.now core }
+    requires sound { IsSoundQuery schemas.now core }
+    requires externals { ExternalsAreDocuments schemas.now (plain_query core).declarations }
+    requires documents { AreDocumentsOf schemas.now (plain_query core).declarations store }
+    ensures answers { AnswersSo (AnswersEvaluated schemas.now (plain_query core) store) result }
     ensures own { IsEvaluated result }
 {
+    sound_queries_keep_their_types();
+    documents_are_honest();
+    documents_are_as_asked();
+    query_meaning_looks_at_no_type();
+    rewritten_plans_have_the_outcome();
+    match plan_of(alloc, schemas, core) {
+        Ok(plan) => plan_value(alloc, schemas, plan, store),
+        Err(AllocError) => Err(Refusal::Memory),
+    }
+}
+
+// The serialisation of the value of a plan over the trees of documents. The plan ends here.
+fn plan_value(alloc: Global, schemas: &Schemas, plan: Plan, store: Store) -> Result<String, Refusal>
+    requires normal { IsNormalPlan schemas.now plan }
+    requires right { plan_outcome schemas.now plan.query (document_nodes store) store ≢ wrong }
+    ensures answers { AnswersSo (AnswersOutcome (plan_outcome schemas.now plan.query (document_nodes store) store)) result }
+    ensures own { IsEvaluated result }
+{
+    let answer = written(alloc, schemas, &plan, store);
+    dismantle_plan(alloc, plan);
+    answer
+}
+
+#[tactic(auto, using(crate::proofs::RunLemmas::dynamic_error))]
+fn written(alloc: Global, schemas: &Schemas, plan: &Plan, store: Store) -> Result<String, Refusal>
+    requires normal { IsNormalPlan schemas.now plan.now }
+    requires right { plan_outcome schemas.now plan.now.query (document_nodes store) store ≢ wrong }
+    ensures answers { AnswersSo (AnswersOutcome (plan_outcome schemas.now plan.now.query (document_nodes store) store)) result }
+    ensures own { IsEvaluated result }
+{
+    query_meaning_looks_at_no_type();
+    queries_raise_dynamic_codes();
+    plans_have_the_outcome_of_their_typed_core();
     let mut store = store;
-    match value_of(alloc, schemas, core, &mut store) {
+    match value_of(alloc, schemas, plan, &mut store) {
         Ok(items) => Ok(serialise(alloc, &store, items.as_slice())?),
         Err(DynError::Raised(code)) => Err(Refusal::Dynamic(code)),
         Err(DynError::Memory) => Err(Refusal::Memory),
     }
 }
 
-// The value of a query that is typed soundly, over the trees of documents.
+// The value of a plan over the trees of documents.
 fn value_of(
     alloc: Global,
     schemas: &Schemas,
-    core: &TypedCore,
+    plan: &Plan,
     store: &mut Store,
 ) -> Result<Vec<Item>, DynError>
-    requires schemas { IsSchemaSet schemas.now }
-    requires sound { IsSoundQuery schemas.now core.now }
-    requires externals { ExternalsAreDocuments schemas.now (plain_query core.now).declarations }
-    requires documents { AreDocumentsOf schemas.now (plain_query core.now).declarations store.now }
-    ensures value { IfOk result (λ v. query_outcome schemas.now (plain_query core.now) (document_nodes store.old) store.old ≡ gives (items_in store.new v.items) store.new) }
-    ensures raised { IfErr result (λ e. Fails e (query_outcome schemas.now (plain_query core.now) (document_nodes store.old) store.old)) }
+    requires normal { IsNormalPlan schemas.now plan.now }
+    requires right { plan_outcome schemas.now plan.now.query (document_nodes store.old) store.old ≢ wrong }
+    ensures value { IfOk result (λ v. plan_outcome schemas.now plan.now.query (document_nodes store.old) store.old ≡ gives (items_in store.new v.items) store.new) }
+    ensures raised { IfErr result (λ e. Fails e (plan_outcome schemas.now plan.now.query (document_nodes store.old) store.old)) }
 {
     match document_nodes(alloc, store) {
-        Ok(documents) => evaluated(alloc, schemas, core, store, documents.as_slice()),
+        Ok(documents) => evaluated(alloc, schemas, plan, store, documents.as_slice()),
         Err(AllocError) => Err(DynError::Memory),
     }
 }
@@ -358,21 +405,16 @@ fn value_of(
 fn evaluated(
     alloc: Global,
     schemas: &Schemas,
-    core: &TypedCore,
+    plan: &Plan,
     store: &mut Store,
     documents: &[NodeId],
 ) -> Result<Vec<Item>, DynError>
-    requires schemas { IsSchemaSet schemas.now }
-    requires sound { IsSoundQuery schemas.now core.now }
-    requires externals { ExternalsAreDocuments schemas.now (plain_query core.now).declarations }
-    requires documents { AreDocumentsOf schemas.now (plain_query core.now).declarations store.now }
+    requires normal { IsNormalPlan schemas.now plan.now }
     requires there { All (λ m. m.number < count_in store.now) documents.now }
     requires nodes { node_places store.now documents.now ≡ document_nodes store.now }
-    ensures value { IfOk result (λ v. query_outcome schemas.now (plain_query core.now) (document_nodes store.old) store.old ≡ gives (items_in store.new v.items) store.new) }
-    ensures raised { IfErr result (λ e. Fails e (query_outcome schemas.now (plain_query core.now) (document_nodes store.old) store.old)) }
+    requires right { plan_outcome schemas.now plan.now.query (document_nodes store.old) store.old ≢ wrong }
+    ensures value { IfOk result (λ v. plan_outcome schemas.now plan.now.query (document_nodes store.old) store.old ≡ gives (items_in store.new v.items) store.new) }
+    ensures raised { IfErr result (λ e. Fails e (plan_outcome schemas.now plan.now.query (document_nodes store.old) store.old)) }
 {
-    sound_queries_keep_their_types();
-    documents_are_honest();
-    documents_are_as_asked();
-    evaluate(alloc, schemas, core, store, documents)
+    evaluate(alloc, schemas, plan, store, documents)
 }

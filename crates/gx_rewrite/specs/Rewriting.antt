@@ -1,19 +1,13 @@
 -- Plans rewritten from below: what becomes of an operator whose parts are rewritten.
 use Rattle.std.specs.Prelude.{Option, None, Some, option_map, unwrap_or}
 use Rattle.gx_base.specs.declared.place.Place.{Place}
-use Rattle.gx_types.specs.SchemaSet.{SchemaSet}
 use Rattle.gx_core.specs.declared.operator.Operator.{Operator}
 use Rattle.gx_core.specs.Expression.{At, Parts}
 use Rattle.gx_plan.specs.declared.plan.Carried.{Carried}
-use Rattle.gx_plan.specs.declared.plan.Plan.{Plan}
 use Rattle.gx_plan.specs.Plan.{PlanExpression, PlanQuery}
 use Rattle.gx_plan.specs.Remaking.{remade}
 use Rattle.gx_rules.specs.Normal.{IsRewritten}
 use Rattle.gx_rules.specs.Rules.{RuleSetting, one, order_of_sorted, flat, slashes, single_loop, join, decided_switch, idle}
-
--- what the rules look at: the schemas, and the types that the variables of a plan carry
-abbrev pub setting_of : SchemaSet → Plan → RuleSetting
-setting_of schemas plan = record { schemas = schemas; variables = plan.variables }
 
 -- each plan can be rewritten to one to which no rule applies
 abbrev pub PlansCanBeRewritten : Type 0

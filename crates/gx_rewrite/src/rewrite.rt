@@ -4,8 +4,8 @@ ghost use Rattle.std.specs.Prelude.{◌≡◌, IfOk};
 ghost use Rattle.gx_core.specs.ExpressionView.{operator_of};
 ghost use Rattle.gx_plan.specs.Remaking.{frame_made, IsReady};
 ghost use Rattle.gx_rules.specs.Guards.{is_flat};
-ghost use Rattle.gx_rules.specs.Normal.{IsRewritten};
-ghost use Rattle.gx_rewrite.specs.Rewriting.{rewritten_at, rewritten_operator, setting_of};
+ghost use Rattle.gx_rules.specs.Normal.{IsRewritten, setting_of};
+ghost use Rattle.gx_rewrite.specs.Rewriting.{rewritten_at, rewritten_operator};
 ghost use Rattle.gx_rewrite.specs.Shapes.{some_rule_asks_for, parts_flat};
 
 use crate::choices::{SwitchParts, atomized, called, switched};

@@ -23,7 +23,6 @@ use Rattle.gx_plan.specs.Plan.{PlanExpression, typed_expression, typed_declarati
 use Rattle.gx_plan.specs.FullSoundness.{body_types, IsFullySound, DeclarationsAreFullySound}
 use Rattle.gx_rules.specs.Guards.{is_in_join}
 use Rattle.gx_rules.specs.Normal.{PlanReaches}
-use Rattle.gx_rule_laws.specs.KeepingRules.{HasOneBoolean}
 use Rattle.gx_rule_laws.specs.KeepingSoundness.{plan_rule_setting}
 use Rattle.gx_rule_laws.specs.QuietValues.{carried_binders, plan_setting, is_comparison_of_join, JoinsCompareInPlace, JoinsInPartsCompareInPlace}
 use Rattle.gx_rule_laws.specs.FairJoins.{IsFairOperator, AreJoinsFair, JoinsInPartsAreFair, HasFairJoins}
@@ -102,11 +101,11 @@ compiled_plans_have_no_join query = record { declarations = declarations_without
 
 -- ---- whole plans
 
-module _ (s : SchemaSet) (is : IsSchemaSet s) (variables : Types) (none : look_up variables 0 ≡ None) (one : HasOneBoolean s) where
+module _ (s : SchemaSet) (is : IsSchemaSet s) (variables : Types) (none : look_up variables 0 ≡ None) where
   becomes_fair : (e other : PlanExpression) (types : Types) → IsFullySound s (carried_binders variables) (typed_expression e) types → IsOrderly variables e types
       → HasNoJoin e → PlanReaches (plan_rule_setting s variables) e other → BecomesFair s variables e other types
   becomes_fair e other types sound orderly no_join reaches known calls all =
-      rewriting_keeps_joins_fair s variables known calls e other types one (record {
+      rewriting_keeps_joins_fair s variables known calls e other types (record {
         stands = record { schemas = is; regular = orderly.regular; sound = sound.sound known calls all; well_bound = sound.well_bound known calls all };
         positions = orderly.positions;
         none_carries = none;
@@ -137,10 +136,10 @@ module _ (s : SchemaSet) (is : IsSchemaSet s) (variables : Types) (none : look_u
   all_become_fair functions (Function function ∷ ds) (Global other_name other_binder (Some other) ∷ es) types sound orderly no_join reaches = absurd reaches.0
 
 pub rewritten_plans_have_fair_joins : RewrittenPlansHaveFairJoins
-rewritten_plans_have_fair_joins s variables plan other sound orderly one no_join reaches =
+rewritten_plans_have_fair_joins s variables plan other sound orderly no_join reaches =
     let parts = parts_reached (plan_rule_setting s variables) reaches.applications plan other reaches.reached in record {
-      declarations = all_become_fair s orderly.schemas_kept variables orderly.none_carries one (functions_declared (typed_query plan).declarations []) plan.declarations other.declarations []
+      declarations = all_become_fair s orderly.schemas_kept variables orderly.none_carries (functions_declared (typed_query plan).declarations []) plan.declarations other.declarations []
           sound.declarations orderly.declarations no_join.declarations parts.declarations;
-      body = becomes_fair s orderly.schemas_kept variables orderly.none_carries one plan.body other.body (types_declared (typed_query plan).declarations []) sound.body orderly.body
+      body = becomes_fair s orderly.schemas_kept variables orderly.none_carries plan.body other.body (types_declared (typed_query plan).declarations []) sound.body orderly.body
           no_join.body parts.body;
     }

@@ -15,7 +15,7 @@ use Rattle.gx_plan.specs.declared.plan.Carried.{Carried}
 use Rattle.gx_plan.specs.Plan.{PlanExpression, typed_expression, typed_parts}
 use Rattle.gx_plan.specs.Fitting.{PartsAreWellBound}
 use Rattle.gx_rules.specs.Normal.{StepsTo, PartStepsTo, ReachesIn}
-use Rattle.gx_rule_laws.specs.KeepingRules.{AreRegular, HasOneBoolean}
+use Rattle.gx_rule_laws.specs.KeepingRules.{AreRegular}
 use Rattle.gx_rule_laws.specs.KeepingSoundness.{PartsCountByIntegers, StandsInPlan, plan_rule_setting, IsRewrittenWell}
 use Rattle.gx_rule_laws.specs.QuietValues.{carried_types, plan_setting, JoinsCompareInPlace, JoinsInPartsCompareInPlace}
 use Rattle.gx_rule_laws.specs.FairJoins.{IsFairOperator, AreJoinsFair, JoinsInPartsAreFair, HasFairJoins, RewritingKeepsJoinsFair}
@@ -24,7 +24,7 @@ use Rattle.gx_rule_laws.proofs.FairMaking.{rule_fair}
 use Rattle.gx_rule_laws.proofs.FairSteps.{value_so, keys_so}
 use Rattle.gx_rule_laws.proofs.Rewriting.{units, units_next, none_typed_behind}
 
-module _ (s : SchemaSet) (variables : Types) (known : List FunctionSignature) (calls : CallOutcomes) (one : HasOneBoolean s) where
+module _ (s : SchemaSet) (variables : Types) (known : List FunctionSignature) (calls : CallOutcomes) where
   abbrev setting : Setting
   setting = plan_setting s variables known calls
 
@@ -36,7 +36,7 @@ module _ (s : SchemaSet) (variables : Types) (known : List FunctionSignature) (c
 
   one_step : (e other : PlanExpression) (types : Types) → Stands e types → StepsTo (plan_rule_setting s variables) e other
       → IsRewrittenWell s variables known calls e other types
-  one_step e other types stands steps = rewriting_keeps s variables known calls e other types one stands (record { applications = suc zero; reached = (other, steps, refl) })
+  one_step e other types stands steps = rewriting_keeps s variables known calls e other types stands (record { applications = suc zero; reached = (other, steps, refl) })
 
   -- ---- one operator
 
@@ -177,5 +177,5 @@ module _ (s : SchemaSet) (variables : Types) (known : List FunctionSignature) (c
       reached_fair n next other types (one_step e next types stands steps).stands (steps_fair e next types stands h steps) rest
 
 pub rewriting_keeps_joins_fair : RewritingKeepsJoinsFair
-rewriting_keeps_joins_fair s variables known calls e other types one stands fair reaches =
-    reached_fair s variables known calls one reaches.applications e other types stands fair reaches.reached
+rewriting_keeps_joins_fair s variables known calls e other types stands fair reaches =
+    reached_fair s variables known calls reaches.applications e other types stands fair reaches.reached

@@ -41,3 +41,7 @@ pub mod FairRules
 pub mod FairMaking
 pub mod FairRewriting
 pub mod FairPlans
+pub mod BoundNumbers
+pub mod NoneCarried
+pub mod OrderlyPlans
+pub mod TypedOutcomes

@@ -26,7 +26,7 @@ use Rattle.gx_funcs.specs.declared.value_function.ValueFunction.{ValueFunction}
 use Rattle.gx_funcs.specs.declared.value_function.ValueFunction.TheVariants as value_functions
 use Rattle.gx_funcs.specs.declared.item_function.ItemFunction.{ItemFunction}
 use Rattle.gx_funcs.specs.declared.item_function.ItemFunction.TheVariants as item_functions
-use Rattle.gx_funcs.specs.Function.{ItemView, effective_boolean, string_of_items, one_answer, truth_atom, string_atom, applied, value_parameters_of, item_parameters_of, parameters_of, conversion_of}
+use Rattle.gx_funcs.specs.Function.{ItemView, effective_boolean, string_of_items, one_answer, truth_atom, boolean_atom, string_atom, applied, value_parameters_of, item_parameters_of, parameters_of, conversion_of}
 use Rattle.gx_funcs.specs.Numbers.{numbers_of_values, foremost_of}
 use Rattle.gx_funcs.specs.Positions.{from_position, so_many_from, without_position, inserted_before}
 use Rattle.gx_funcs.specs.Strings.{Nfc, codepoints_of, normalized_as}
@@ -214,7 +214,7 @@ quiet_applied : (function : Function) (views : List (List ItemView)) (forest : F
     → IsQuiet forest (given (applied function views) (λ answer. answered answer forest))
 quiet_applied functions.True [] forest = refl
 quiet_applied functions.False [] forest = refl
-quiet_applied functions.Boolean (items ∷ []) forest = quiet_answer (effective_boolean items) truth_atom forest
+quiet_applied functions.Boolean (items ∷ []) forest = quiet_answer (effective_boolean items) (boolean_atom items) forest
 quiet_applied functions.Not (items ∷ []) forest = quiet_answer (effective_boolean items) (λ truth. truth_atom (not truth)) forest
 quiet_applied functions.Count (items ∷ []) forest = refl
 quiet_applied functions.Empty (items ∷ []) forest = refl

@@ -24,7 +24,7 @@ use Rattle.gx_plan.specs.SameMeaning.{PartsComeToTheSameFrom}
 use Rattle.gx_plan.proofs.ReplacingParts.{well_bound_parts_may_be_replaced}
 use Rattle.gx_rules.specs.Rules.{RewritingRule, One, Sorted, Flat, Slashes, Single, Decided, Idle, Joins}
 use Rattle.gx_rules.specs.Normal.{StepsTo, PartStepsTo, ReachesIn, PlanReaches}
-use Rattle.gx_rule_laws.specs.KeepingRules.{AreRegular, KeepsWhereApplied, HasOneBoolean}
+use Rattle.gx_rule_laws.specs.KeepingRules.{AreRegular, RuleKeeps}
 use Rattle.gx_rule_laws.specs.QuietValues.{with_carried, carried_types, plan_setting}
 use Rattle.gx_rule_laws.specs.KeepingSoundness.{PartsCountByIntegers, StandsInPlan, plan_rule_setting, RuleHandsOn, IsRewrittenWell}
 use Rattle.gx_rule_laws.proofs.Ones.{one_keeps}
@@ -39,15 +39,15 @@ use Rattle.gx_rule_laws.proofs.ReplacedParts.{all_so, same_evaluations}
 
 -- ---- all rules keep
 
-all_keep : (setting : Setting) (variables : Types) → HasOneBoolean setting.schemas → (rule : RewritingRule) → KeepsWhereApplied setting variables rule
-all_keep setting variables one One = one_keeps setting variables
-all_keep setting variables one Sorted = sorted_keeps setting variables
-all_keep setting variables one Flat = flat_keeps setting variables
-all_keep setting variables one Slashes = slashes_keep setting variables
-all_keep setting variables one Single = single_keeps setting variables
-all_keep setting variables one Decided = decided_keeps setting variables
-all_keep setting variables one Idle = idle_keeps setting variables one
-all_keep setting variables one Joins = joins_keep setting variables
+all_keep : (rule : RewritingRule) → RuleKeeps rule
+all_keep One = one_keeps
+all_keep Sorted = sorted_keeps
+all_keep Flat = flat_keeps
+all_keep Slashes = slashes_keep
+all_keep Single = single_keeps
+all_keep Decided = decided_keeps
+all_keep Idle = idle_keeps
+all_keep Joins = joins_keep
 
 -- ---- what an operator binds depends on the number of the parts before
 
@@ -94,7 +94,7 @@ none_typed_behind variables (number ∷ numbers) types v t =
     by_carried n None e rest = rest
     by_carried n (Some u) e rest = by_number n u (nat_eq n 0) refl e rest
 
-module _ (s : SchemaSet) (variables : Types) (known : List FunctionSignature) (calls : CallOutcomes) (one : HasOneBoolean s)
+module _ (s : SchemaSet) (variables : Types) (known : List FunctionSignature) (calls : CallOutcomes)
     (hands_on : (rule : RewritingRule) → RuleHandsOn rule) where
   abbrev setting : Setting
   setting = plan_setting s variables known calls
@@ -193,7 +193,7 @@ module _ (s : SchemaSet) (variables : Types) (known : List FunctionSignature) (c
         → IsRewrittenWell s variables known calls e other types
     steps_keep (At place outer carried operator parts) other types stands (inl applies) = record {
       stands = hands_on applies.rule s variables known calls (At place outer carried operator parts) other types stands applies.gives;
-      same = all_keep setting variables one applies.rule (At place outer carried operator parts) other types stands.stands applies.gives;
+      same = all_keep applies.rule setting variables (At place outer carried operator parts) other types stands.stands applies.gives;
     }
     steps_keep (At place outer carried operator parts) other types stands (inr (others, is, steps)) =
         subst (λ (d : PlanExpression). IsRewrittenWell s variables known calls (At place outer carried operator parts) d types) (sym is)
@@ -258,7 +258,7 @@ module _ (s : SchemaSet) (variables : Types) (known : List FunctionSignature) (c
       record { stands = others.stands; same = λ situation. others.same situation ∙ first.same situation }
 
 pub rewritten_well : ((rule : RewritingRule) → RuleHandsOn rule) → (s : SchemaSet) (variables : Types) (known : List FunctionSignature) (calls : CallOutcomes)
-    (e other : PlanExpression) (types : Types) → HasOneBoolean s → StandsInPlan s variables known calls e types → PlanReaches (plan_rule_setting s variables) e other
+    (e other : PlanExpression) (types : Types) → StandsInPlan s variables known calls e types → PlanReaches (plan_rule_setting s variables) e other
     → IsRewrittenWell s variables known calls e other types
-rewritten_well hands_on s variables known calls e other types one stands reaches =
-    reached_keep s variables known calls one hands_on reaches.applications e other types stands reaches.reached
+rewritten_well hands_on s variables known calls e other types stands reaches =
+    reached_keep s variables known calls hands_on reaches.applications e other types stands reaches.reached

@@ -17,7 +17,6 @@ use Rattle.gx_plan.proofs.SameOutcomes.{same_queries_have_the_outcome}
 use Rattle.gx_plan.proofs.TypedPlans.{plans_mean_their_typed_core, plans_have_the_outcome_of_their_typed_core}
 use Rattle.gx_rules.specs.Rules.{RuleSetting}
 use Rattle.gx_rules.specs.Normal.{StepsTo, ReachesIn, PlanReaches, DeclarationStepsTo, DeclarationsStepTo, QueryStepsTo, function_over}
-use Rattle.gx_rule_laws.specs.KeepingRules.{HasOneBoolean}
 use Rattle.gx_rule_laws.specs.QuietValues.{carried_binders, plan_setting}
 use Rattle.gx_rule_laws.specs.KeepingSoundness.{plan_rule_setting}
 use Rattle.gx_rule_laws.specs.RewrittenQueries.{IsOrderly, typed_function_of, AreOrderlyDeclarations, RewritingKeepsOutcomes}
@@ -106,13 +105,13 @@ parts_reached setting (suc n) plan other (next, steps, rest) = parts_first setti
 
 -- ---- they come to the same
 
-module _ (s : SchemaSet) (is : IsSchemaSet s) (variables : Types) (none : look_up variables 0 ≡ None) (one : HasOneBoolean s) where
+module _ (s : SchemaSet) (is : IsSchemaSet s) (variables : Types) (none : look_up variables 0 ≡ None) where
   same_expression : (e other : PlanExpression) (types : Types) → IsFullySound s (carried_binders variables) (typed_expression e) types → IsOrderly variables e types
       → PlanReaches (plan_rule_setting s variables) e other → IsSameExpression s other (typed_expression e) types
   same_expression e other types sound orderly reaches known calls all situation =
       let setting : Setting = plan_setting s variables known calls in
       plans_mean_their_typed_core (context_of setting) other situation.bindings situation.forest
-      ∙ (rewriting_keeps s variables known calls e other types one (record {
+      ∙ (rewriting_keeps s variables known calls e other types (record {
         stands = record { schemas = is; regular = orderly.regular; sound = sound.sound known calls all; well_bound = sound.well_bound known calls all };
         positions = orderly.positions;
         none_carries = none;
@@ -153,11 +152,11 @@ module _ (s : SchemaSet) (is : IsSchemaSet s) (variables : Types) (none : look_u
   all_same functions (Function function ∷ ds) (Global other_name other_binder (Some other) ∷ es) types sound orderly reaches = absurd reaches.0
 
 pub rewriting_keeps_outcomes : RewritingKeepsOutcomes
-rewriting_keeps_outcomes limit s variables plan other documents forest honest fit sound orderly one reaches =
+rewriting_keeps_outcomes limit s variables plan other documents forest honest fit sound orderly reaches =
     let parts = parts_reached (plan_rule_setting s variables) reaches.applications plan other reaches.reached in
     same_queries_have_the_outcome Carried limit s (carried_binders variables) (typed_query plan) other documents forest honest fit sound (record {
-      declarations = all_same s orderly.schemas_kept variables orderly.none_carries one (functions_declared (typed_query plan).declarations []) plan.declarations other.declarations []
+      declarations = all_same s orderly.schemas_kept variables orderly.none_carries (functions_declared (typed_query plan).declarations []) plan.declarations other.declarations []
           sound.declarations orderly.declarations parts.declarations;
-      body = same_expression s orderly.schemas_kept variables orderly.none_carries one plan.body other.body (types_declared (typed_query plan).declarations []) sound.body orderly.body parts.body;
+      body = same_expression s orderly.schemas_kept variables orderly.none_carries plan.body other.body (types_declared (typed_query plan).declarations []) sound.body orderly.body parts.body;
     })
     ∙ sym (plans_have_the_outcome_of_their_typed_core limit s plan documents forest)

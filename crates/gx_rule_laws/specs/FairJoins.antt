@@ -19,7 +19,6 @@ use Rattle.gx_plan.specs.declared.plan.Carried.{Carried}
 use Rattle.gx_plan.specs.Plan.{PlanExpression, typed_expression}
 use Rattle.gx_rules.specs.Guards.{is_in_join}
 use Rattle.gx_rules.specs.Normal.{PlanReaches}
-use Rattle.gx_rule_laws.specs.KeepingRules.{HasOneBoolean}
 use Rattle.gx_rule_laws.specs.QuietValues.{plan_setting, HasValueInPlace, JoinsCompareInPlace}
 use Rattle.gx_rule_laws.specs.KeepingSoundness.{StandsInPlan, plan_rule_setting}
 
@@ -86,5 +85,5 @@ pub record HasFairJoins (setting : Setting) (e : PlanExpression) (types : Types)
 abbrev pub RewritingKeepsJoinsFair : Type 0
 RewritingKeepsJoinsFair =
     (schemas : SchemaSet) (variables : Types) (known : List FunctionSignature) (calls : CallOutcomes) (e other : PlanExpression) (types : Types)
-    → HasOneBoolean schemas → StandsInPlan schemas variables known calls e types → HasFairJoins (plan_setting schemas variables known calls) e types
+    → StandsInPlan schemas variables known calls e types → HasFairJoins (plan_setting schemas variables known calls) e types
     → PlanReaches (plan_rule_setting schemas variables) e other → HasFairJoins (plan_setting schemas variables known calls) other types

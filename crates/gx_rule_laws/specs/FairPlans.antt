@@ -16,7 +16,6 @@ use Rattle.gx_plan.specs.Compiling.{compiled_query}
 use Rattle.gx_plan.specs.Plan.{PlanExpression, PlanQuery, typed_expression, typed_declaration, typed_query}
 use Rattle.gx_plan.specs.FullSoundness.{body_types, IsFullySoundQuery}
 use Rattle.gx_rules.specs.Normal.{QueryReaches}
-use Rattle.gx_rule_laws.specs.KeepingRules.{HasOneBoolean}
 use Rattle.gx_rule_laws.specs.QuietValues.{carried_binders, plan_setting}
 use Rattle.gx_rule_laws.specs.KeepingSoundness.{plan_rule_setting}
 use Rattle.gx_rule_laws.specs.FairJoins.{HasFairJoins}
@@ -76,5 +75,5 @@ pub record PlanBecomesFair (schemas : SchemaSet) (variables : Types) (plan other
 abbrev pub RewrittenPlansHaveFairJoins : Type 0
 RewrittenPlansHaveFairJoins =
     (schemas : SchemaSet) (variables : Types) (plan other : PlanQuery) → IsFullySoundQuery schemas (carried_binders variables) (typed_query plan)
-    → IsOrderlyPlan schemas variables plan → HasOneBoolean schemas → PlanHasNoJoin plan
+    → IsOrderlyPlan schemas variables plan → PlanHasNoJoin plan
     → QueryReaches (plan_rule_setting schemas variables) plan other → PlanBecomesFair schemas variables plan other

@@ -1,11 +1,6 @@
 -- When a rule of rewriting keeps what an expression comes to.
 use Rattle.std.specs.Prelude.{◌≡◌, ◌≢◌, Some}
-use Rattle.gx_base.specs.declared.type_name.Builtin.TheVariants.{Boolean}
-use Rattle.gx_base.specs.declared.type_name.TypeName.{TypeName}
-use Rattle.gx_base.specs.declared.type_name.TypeName.TheVariants.{Builtin}
-use Rattle.gx_types.specs.Derivation.{DerivesFrom}
 use Rattle.gx_types.specs.SchemaInvariant.{IsSchemaSet}
-use Rattle.gx_types.specs.SchemaSet.{SchemaSet}
 use Rattle.gx_core.specs.declared.operator.Operator.{Operator}
 use Rattle.gx_core.specs.declared.operator.Operator.TheVariants as operators
 use Rattle.gx_core.specs.Bindings.{Types}
@@ -17,7 +12,7 @@ use Rattle.gx_plan.specs.declared.plan.Carried.{Carried}
 use Rattle.gx_plan.specs.Plan.{PlanExpression, typed_expression}
 use Rattle.gx_plan.specs.Fitting.{IsWellBound}
 use Rattle.gx_plan.specs.SameMeaning.{ComesToTheSame}
-use Rattle.gx_rules.specs.Rules.{RuleSetting, RewritingRule, Idle, rewritten_by}
+use Rattle.gx_rules.specs.Rules.{RuleSetting, RewritingRule, rewritten_by}
 
 -- ---- where a rule is asked
 
@@ -62,11 +57,3 @@ KeepsWhereApplied setting variables rule =
 
 abbrev pub RuleKeeps : RewritingRule → Type 0
 RuleKeeps rule = (setting : Setting) (variables : Types) → KeepsWhereApplied setting variables rule
-
--- no type of the schemas derives from xs:boolean but xs:boolean itself
-abbrev pub HasOneBoolean : SchemaSet → Type 0
-HasOneBoolean schemas = (kind : TypeName) → DerivesFrom schemas kind (Builtin Boolean) → kind ≡ Builtin Boolean
-
--- an effective boolean value is an xs:boolean: where the operand may be a value of a type that derives from it, `boolean` is not idle
-abbrev pub IdleKeeps : Type 0
-IdleKeeps = (setting : Setting) (variables : Types) → HasOneBoolean setting.schemas → KeepsWhereApplied setting variables Idle

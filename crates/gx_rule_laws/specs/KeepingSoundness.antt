@@ -15,7 +15,7 @@ use Rattle.gx_plan.specs.Plan.{PlanExpression, typed_expression}
 use Rattle.gx_plan.specs.SameMeaning.{ComesToTheSame}
 use Rattle.gx_rules.specs.Rules.{RuleSetting, RewritingRule, rewritten_by}
 use Rattle.gx_rules.specs.Normal.{PlanReaches}
-use Rattle.gx_rule_laws.specs.KeepingRules.{StandsWell, HasOneBoolean}
+use Rattle.gx_rule_laws.specs.KeepingRules.{StandsWell}
 use Rattle.gx_rule_laws.specs.QuietValues.{plan_setting}
 
 -- ---- where an expression of a plan stands
@@ -67,5 +67,5 @@ pub record IsRewrittenWell (schemas : SchemaSet) (variables : Types) (known : Li
 abbrev pub RewritingKeeps : Type 0
 RewritingKeeps =
     (schemas : SchemaSet) (variables : Types) (known : List FunctionSignature) (calls : CallOutcomes) (e other : PlanExpression) (types : Types)
-    → HasOneBoolean schemas → StandsInPlan schemas variables known calls e types → PlanReaches (plan_rule_setting schemas variables) e other
+    → StandsInPlan schemas variables known calls e types → PlanReaches (plan_rule_setting schemas variables) e other
     → IsRewrittenWell schemas variables known calls e other types

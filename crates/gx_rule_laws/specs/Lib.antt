@@ -4,3 +4,4 @@ pub mod KeepingSoundness
 pub mod RewrittenQueries
 pub mod FairJoins
 pub mod FairPlans
+pub mod TypedQueries

@@ -14,7 +14,7 @@ use Rattle.gx_plan.specs.declared.plan.Carried.{Carried}
 use Rattle.gx_plan.specs.Plan.{PlanExpression, PlanQuery, typed_expression, typed_declaration, typed_query}
 use Rattle.gx_plan.specs.FullSoundness.{body_types, IsFullySoundQuery}
 use Rattle.gx_rules.specs.Normal.{QueryReaches}
-use Rattle.gx_rule_laws.specs.KeepingRules.{IsRegular, HasOneBoolean}
+use Rattle.gx_rule_laws.specs.KeepingRules.{IsRegular}
 use Rattle.gx_rule_laws.specs.QuietValues.{carried_binders}
 use Rattle.gx_rule_laws.specs.KeepingSoundness.{AllCountByIntegers, plan_rule_setting}
 
@@ -51,6 +51,6 @@ abbrev pub RewritingKeepsOutcomes : Type 0
 RewritingKeepsOutcomes =
     (limit : ℕ) (schemas : SchemaSet) (variables : Types) (plan other : PlanQuery) (documents : List PlainNode) (forest : Forest)
     → IsHonest schemas forest → DocumentsFit schemas forest (plain_query (typed_query plan)).declarations documents
-    → IsFullySoundQuery schemas (carried_binders variables) (typed_query plan) → IsOrderlyPlan schemas variables plan → HasOneBoolean schemas
+    → IsFullySoundQuery schemas (carried_binders variables) (typed_query plan) → IsOrderlyPlan schemas variables plan
     → QueryReaches (plan_rule_setting schemas variables) plan other
     → outcome_within limit schemas other documents forest ≡ outcome_within limit schemas plan documents forest

@@ -1,12 +1,13 @@
 // Laws of the rules of rewriting: each keeps what an expression comes to.
 
-ghost use Rattle.gx_rule_laws.specs.KeepingRules.{RuleKeeps, IdleKeeps};
+ghost use Rattle.gx_rule_laws.specs.KeepingRules.{RuleKeeps};
 ghost use Rattle.gx_rule_laws.specs.QuietValues.{QuietExpressionsHaveValues};
 ghost use Rattle.gx_rule_laws.specs.KeepingSoundness.{RulesHandOn, RewritingKeeps};
 ghost use Rattle.gx_rule_laws.specs.RewrittenQueries.{RewritingKeepsOutcomes};
 ghost use Rattle.gx_rule_laws.specs.FairJoins.{RewritingKeepsJoinsFair};
 ghost use Rattle.gx_rule_laws.specs.FairPlans.{CompiledPlansHaveNoJoin, RewrittenPlansHaveFairJoins};
-ghost use Rattle.gx_rules.specs.Rules.{Joins, One, Sorted, Slashes, Single, Decided, Flat};
+ghost use Rattle.gx_rule_laws.specs.TypedQueries.{CompiledPlansAreOrderly, RewrittenPlansHaveTheOutcome};
+ghost use Rattle.gx_rules.specs.Rules.{Joins, One, Sorted, Slashes, Single, Decided, Idle, Flat};
 
 /// Two loops over a comparison of keys come to the same where they are marked as a join: a mark has no meaning.
 pub fn joins_keep()
@@ -39,10 +40,9 @@ pub fn decided_keeps()
     ensures { RuleKeeps Decided }
 {}
 
-/// A boolean is its own effective boolean value (XQuery 1.0, section 2.4.3), where no type derives from xs:boolean, and atomic values are
-/// their own typed values (section 2.4.2).
+/// A boolean is its own effective boolean value (XQuery 1.0, section 2.4.3), and atomic values are their own typed values (section 2.4.2).
 pub fn idle_keeps()
-    ensures { IdleKeeps }
+    ensures { RuleKeeps Idle }
 {}
 
 /// The nodes of flat expressions stand in document order, each once: at most one item, nodes of a step to children, to attributes or to the
@@ -88,4 +88,16 @@ pub fn rewritten_plans_have_fair_joins()
 /// A compiled plan has no join.
 pub fn compiled_plans_have_no_join()
     ensures { CompiledPlansHaveNoJoin }
+{}
+
+/// The plan that a typed query is compiled to is orderly: no variable has number 0, a position is another variable than the item, the types
+/// of cases can be written, and positions carry xs:integer.
+pub fn compiled_plans_are_orderly()
+    ensures { CompiledPlansAreOrderly }
+{}
+
+/// A plan that any number of applications of rules lead to, from the one that a typed query is compiled to, has the outcome of the query,
+/// however many calls may be active: the same items, forest and code.
+pub fn rewritten_plans_have_the_outcome()
+    ensures { RewrittenPlansHaveTheOutcome }
 {}

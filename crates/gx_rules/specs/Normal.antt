@@ -1,10 +1,12 @@
 -- Plans that rules lead from and to, and plans to which no rule applies.
 use Rattle.std.specs.Prelude.{◌≡◌, ℕ, zero, suc, List, [], ◌∷◌, None, Some, ◌⊎◌}
+use Rattle.gx_types.specs.SchemaSet.{SchemaSet}
 use Rattle.gx_core.specs.declared.expression.Declaration.{Declaration}
 use Rattle.gx_core.specs.declared.expression.Declaration.TheVariants.{Global, Function}
 use Rattle.gx_core.specs.declared.expression.DeclaredFunction.{DeclaredFunction}
 use Rattle.gx_core.specs.Expression.{At, Parts, no_parts, a_part}
 use Rattle.gx_plan.specs.declared.plan.Carried.{Carried}
+use Rattle.gx_plan.specs.declared.plan.Plan.{Plan}
 use Rattle.gx_plan.specs.Plan.{PlanExpression, PlanQuery}
 use Rattle.gx_rules.specs.Rules.{RuleSetting, RewritingRule, rewritten_by}
 
@@ -94,6 +96,14 @@ pub record IsNormalQuery (setting : RuleSetting) (query : PlanQuery) : Type 0 wh
   pub body : IsNormal setting query.body
 
 -- ---- rewriting
+
+-- what the rules look at: the schemas, and the types that the variables of a plan carry
+abbrev pub setting_of : SchemaSet → Plan → RuleSetting
+setting_of schemas plan = record { schemas = schemas; variables = plan.variables }
+
+-- a plan to which no rule applies
+abbrev pub IsNormalPlan : SchemaSet → Plan → Type 0
+IsNormalPlan schemas plan = IsNormalQuery (setting_of schemas plan) plan.query
 
 -- a plan that the rules lead to, and to which no rule applies
 pub record IsRewritten (setting : RuleSetting) (query other : PlanQuery) : Type 0 where

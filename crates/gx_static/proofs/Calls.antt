@@ -6,8 +6,13 @@ use Rattle.gx_base.specs.declared.code.Code.TheVariants.{XPTY0004}
 use Rattle.gx_base.specs.declared.type_name.Builtin.{Builtin}
 use Rattle.gx_base.specs.declared.type_name.Builtin.TheVariants.{Boolean, Integer, Str}
 use Rattle.gx_base.specs.declared.type_name.TypeName.TheVariants as names
+use Rattle.gx_base.specs.declared.type_name.TypeName.{TypeName}
 use Rattle.gx_facets.specs.declared.Atomic.{Atomic}
+use Rattle.gx_facets.specs.declared.AtomValue.{AtomValue}
+use Rattle.gx_facets.specs.declared.AtomValue.TheVariants as values
+use Rattle.gx_facets.specs.declared.AtomValue.TheVariants.{Untyped, Truth, Num}
 use Rattle.gx_types.specs.SchemaSet.{SchemaSet}
+use Rattle.gx_types.specs.declared.shape.Shape.{Shape}
 use Rattle.gx_types.specs.Derivation.{DerivesFrom}
 use Rattle.gx_types.specs.SchemaInvariant.{IsSchemaSet}
 use Rattle.gx_types.specs.SequenceType.{SequenceType}
@@ -23,7 +28,7 @@ use Rattle.gx_funcs.specs.Function.{conversion_of, value_parameters_of, item_par
 use Rattle.gx_model.specs.Forest.{Forest}
 use Rattle.gx_model.specs.Honest.{IsHonest}
 use Rattle.gx_model.specs.Item.{atom, Items}
-use Rattle.gx_model.specs.Belongs.{ValueFits, Belongs}
+use Rattle.gx_model.specs.Belongs.{ValueFits, HaveShapes, Belongs}
 use Rattle.gx_core.specs.Outcome.{Outcome, gives, given}
 use Rattle.gx_core.specs.Calling.{value_called, view_of, views_of, text_called, called}
 use Rattle.gx_core.specs.ItemCalling.{item_called}
@@ -51,11 +56,24 @@ integer_keeps s forest i honest = one_answer_keeps s forest Integer (integer_ato
 string_keeps : (s : SchemaSet) (forest : Forest) (text : List ℕ) → IsHonest s forest → Keeps (typed_setting s) forest (atomic Str) (gives (atom (string_atom text) ∷ []) forest)
 string_keeps s forest text honest = one_answer_keeps s forest Str (string_atom text) honest (0, refl) (0, refl)
 
+-- one boolean is itself
+atom_keeps : (s : SchemaSet) (forest : Forest) (value : AtomValue) (kind : TypeName) → IsHonest s forest → ValueFits s value kind
+    → Keeps (typed_setting s) forest (atomic Boolean) (called s functions.Boolean ((atom (record { value = value; kind = kind }) ∷ []) ∷ []) forest)
+atom_keeps s forest (Untyped text) kind honest fits = truth_keeps s forest (effective_boolean_value (Untyped text)) honest
+atom_keeps s forest (values.Str text) kind honest fits = truth_keeps s forest (effective_boolean_value (values.Str text)) honest
+atom_keeps s forest (Truth truth) kind honest fits = one_answer_keeps s forest Boolean (record { value = Truth truth; kind = kind }) honest fits fits
+atom_keeps s forest (Num number) kind honest fits = truth_keeps s forest (effective_boolean_value (Num number)) honest
+
+first_fits : (s : SchemaSet) (forest : Forest) (a : Atomic) (xs : Items) (seen : List Shape) → HaveShapes s forest (atom a ∷ xs) seen → ValueFits s a.value a.kind
+first_fits s forest a xs [] h = absurd h
+first_fits s forest a xs (t ∷ seen) h = h.1
+
 -- what `boolean` and `not` answer
-boolean_keeps : (s : SchemaSet) (forest : Forest) (xs : Items) → IsHonest s forest → HasTruth xs → Keeps (typed_setting s) forest (atomic Boolean) (called s functions.Boolean (xs ∷ []) forest)
-boolean_keeps s forest xs honest is_empty = truth_keeps s forest false honest
-boolean_keeps s forest xs honest (begins_with_node place rest) = truth_keeps s forest true honest
-boolean_keeps s forest xs honest (is_one_atom a) = truth_keeps s forest (effective_boolean_value a.value) honest
+boolean_keeps : (s : SchemaSet) (forest : Forest) (xs : Items) (t : SequenceType) → IsHonest s forest → Belongs s forest xs t → HasTruth xs
+    → Keeps (typed_setting s) forest (atomic Boolean) (called s functions.Boolean (xs ∷ []) forest)
+boolean_keeps s forest xs t honest b is_empty = truth_keeps s forest false honest
+boolean_keeps s forest xs t honest b (begins_with_node place rest) = truth_keeps s forest true honest
+boolean_keeps s forest xs t honest b (is_one_atom a) = atom_keeps s forest a.value a.kind honest (first_fits s forest a [] b.seen b.shaped)
 
 not_keeps : (s : SchemaSet) (forest : Forest) (xs : Items) → IsHonest s forest → HasTruth xs → Keeps (typed_setting s) forest (atomic Boolean) (called s functions.Not (xs ∷ []) forest)
 not_keeps s forest xs honest is_empty = truth_keeps s forest true honest
@@ -136,7 +154,7 @@ unfolding call_rule
 call_keeps s functions.True is arguments t forest values e honest h = with_none s forest functions.True Boolean t arguments values e h (truth_keeps s forest true honest)
 call_keeps s functions.False is arguments t forest values e honest h = with_none s forest functions.False Boolean t arguments values e h (truth_keeps s forest false honest)
 call_keeps s functions.Boolean is arguments t forest values e honest h =
-    with_one s forest functions.Boolean truth_valued Boolean t arguments values e h refl (λ a xs taken b. boolean_keeps s forest xs honest (has_truth s forest xs a is.grounded honest taken b))
+    with_one s forest functions.Boolean truth_valued Boolean t arguments values e h refl (λ a xs taken b. boolean_keeps s forest xs a honest b (has_truth s forest xs a is.grounded honest taken b))
 call_keeps s functions.Not is arguments t forest values e honest h =
     with_one s forest functions.Not truth_valued Boolean t arguments values e h refl (λ a xs taken b. not_keeps s forest xs honest (has_truth s forest xs a is.grounded honest taken b))
 call_keeps s functions.Count is arguments t forest values e honest h =

@@ -1,24 +1,23 @@
 use Rattle.std.proofs.Common.{sym, ◌∙◌}
 use Rattle.gx_store.specs.Items.{items_in}
-use Rattle.gx_eval.proofs.Operands.{boolean_called, no_boolean, contrary_called, no_contrary, string_called, no_string}
+use Rattle.gx_eval.proofs.Operands.{contrary_called, no_contrary, string_called, no_string}
 use Rattle.gx_eval.proofs.calling.called_with_one.Goals as goal
+
+pub returns-in-Boolean-clause-value : goal.returns-in-Boolean-clause-value
+returns-in-Boolean-clause-value c = λ later x. rw c.in-Boolean.is (c.boolean_answer.ensures.value c.args.schemas.now c.args.store.now later)
+
+pub returns-in-Boolean-clause-failed : goal.returns-in-Boolean-clause-failed
+returns-in-Boolean-clause-failed c = λ later x. rw c.in-Boolean.is (c.boolean_answer.ensures.failed c.args.schemas.now c.args.store.now later)
 
 pub returns-in-Some-clause-value : goal.returns-in-Some-clause-value
 returns-in-Some-clause-value c = λ later x.
-    rw c.in-Boolean.is (boolean_called c.args.schemas.now c.args.store.now (items_in later c.args.argument.now) c.in-Some.truth c.truth_atom.result (sym (c.effective_boolean.ensures c.args.store.now later) ∙ c.in-Some.is) c.truth_atom.ensures)
+    rw c.in-Not.is
+    (contrary_called c.args.schemas.now c.args.store.now (items_in later c.args.argument.now) c.in-Some.truth c.truth_atom.result
+    (sym (c.effective_boolean.ensures c.args.store.now later) ∙ c.in-Some.is) c.truth_atom.ensures)
 
 pub returns-in-None-clause-failed : goal.returns-in-None-clause-failed
-returns-in-None-clause-failed c = λ later x. rw c.in-Boolean.is (no_boolean c.args.schemas.now c.args.store.now (items_in later c.args.argument.now) (sym (c.effective_boolean.ensures c.args.store.now later) ∙ c.in-None.is))
-
-pub returns-in-Some-effective_boolean-clause-value : goal.returns-in-Some-effective_boolean-clause-value
-returns-in-Some-effective_boolean-clause-value c = λ later x.
-    rw c.in-Not.is
-    (contrary_called c.args.schemas.now c.args.store.now (items_in later c.args.argument.now) c.in-Some-effective_boolean.truth c.truth_atom-in-Some-effective_boolean.result
-    (sym (c.effective_boolean-in-Not.ensures c.args.store.now later) ∙ c.in-Some-effective_boolean.is) c.truth_atom-in-Some-effective_boolean.ensures)
-
-pub returns-in-None-effective_boolean-clause-failed : goal.returns-in-None-effective_boolean-clause-failed
-returns-in-None-effective_boolean-clause-failed c = λ later x.
-    rw c.in-Not.is (no_contrary c.args.schemas.now c.args.store.now (items_in later c.args.argument.now) (sym (c.effective_boolean-in-Not.ensures c.args.store.now later) ∙ c.in-None-effective_boolean.is))
+returns-in-None-clause-failed c = λ later x.
+    rw c.in-Not.is (no_contrary c.args.schemas.now c.args.store.now (items_in later c.args.argument.now) (sym (c.effective_boolean.ensures c.args.store.now later) ∙ c.in-None.is))
 
 pub returns-in-Some-2-clause-value : goal.returns-in-Some-2-clause-value
 returns-in-Some-2-clause-value c = λ later x.

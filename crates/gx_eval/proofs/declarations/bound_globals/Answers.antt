@@ -3,7 +3,7 @@ use Rattle.std.proofs.lemmas.List.{nil_from_length}
 use Rattle.std.proofs.lemmas.Result.{err_from_is_err_and}
 use Rattle.gx_core.specs.Meaning.{Bindings}
 use Rattle.gx_core.specs.Outcome.{Outcome, after}
-use Rattle.gx_core.specs.Queries.{TypedDeclaration, TypedFunction}
+use Rattle.gx_plan.specs.Plan.{DeclarationOfPlan, FunctionOfPlan}
 use Rattle.gx_core.specs.QueryMeaning.{globals_bound}
 use Rattle.gx_store.specs.Places.{node_places}
 use Rattle.gx_eval.specs.Frames.{functions_in}
@@ -18,9 +18,9 @@ loop-declaration-preserved c = record {
   same = λ later x.
       let s = c.args.schemas.now in
       let store = c.loop-declaration.store in
-      let functions : List TypedFunction = functions_in c.args.functions.now in
+      let functions : List FunctionOfPlan = functions_in c.args.functions.now in
       sym (c.in_ok-left.ensures.value c.in-Some.others.now later x)
-      ∙ ap (λ (ds : List TypedDeclaration). globals_bound s functions c.args.limit ds (node_places later c.loop-declaration.left.now) (items_of later c.loop-declaration.globals) store) (sym c.in-Some.ensures.cases.0)
+      ∙ ap (λ (ds : List DeclarationOfPlan). globals_bound s functions c.args.limit ds (node_places later c.loop-declaration.left.now) (items_of later c.loop-declaration.globals) store) (sym c.in-Some.ensures.cases.0)
       ∙ c.loop-declaration.invariant.same later (through store c.bind_global.new.store later (step_extends s store c.bind_global.new.store c.in_ok-left.ensures.grows) x);
 }
 
@@ -32,20 +32,20 @@ pub returns-in_err-left-clause-failed : goal.returns-in_err-left-clause-failed
 returns-in_err-left-clause-failed c = λ later next x.
     let s = c.args.schemas.now in
     let store = c.loop-declaration.store in
-    let functions : List TypedFunction = functions_in c.args.functions.now in
+    let functions : List FunctionOfPlan = functions_in c.args.functions.now in
     let y = through store c.bind_global.new.store later (step_extends s store c.bind_global.new.store c.in_err-left.ensures.grows) x in
     let p = err_from_is_err_and c.from_residual.result c.from_residual.ensures.1 in
     rw (p.1, p.2)
     (fails_also _ _ _
     (ap (λ (o : Outcome Bindings). after o next)
     (sym (c.loop-declaration.invariant.same later y)
-    ∙ ap (λ (ds : List TypedDeclaration). globals_bound s functions c.args.limit ds (node_places later c.loop-declaration.left.now) (items_of later c.loop-declaration.globals) store) c.in-Some.ensures.cases.0))
+    ∙ ap (λ (ds : List DeclarationOfPlan). globals_bound s functions c.args.limit ds (node_places later c.loop-declaration.left.now) (items_of later c.loop-declaration.globals) store) c.in-Some.ensures.cases.0))
     (c.in_err-left.ensures.failed c.in-Some.others.now later next x))
 
 pub returns-clause-value : goal.returns-clause-value
 returns-clause-value c = λ later x.
     let s = c.args.schemas.now in
-    let functions : List TypedFunction = functions_in c.args.functions.now in
+    let functions : List FunctionOfPlan = functions_in c.args.functions.now in
     sym (c.loop-declaration.invariant.same later x)
-    ∙ ap (λ (ds : List TypedDeclaration). globals_bound s functions c.args.limit ds (node_places later c.loop-declaration.left.now) (items_of later c.loop-declaration.globals) c.loop-declaration.store)
+    ∙ ap (λ (ds : List DeclarationOfPlan). globals_bound s functions c.args.limit ds (node_places later c.loop-declaration.left.now) (items_of later c.loop-declaration.globals) c.loop-declaration.store)
     (nil_from_length c.loop-declaration.rest.now c.in_default.ensures.cases)

@@ -6,7 +6,7 @@ use Rattle.gx_model.specs.Item.{Items}
 use Rattle.gx_core.specs.Functions.{functions_of, context_over}
 use Rattle.gx_core.specs.Meaning.{Bindings, meaning}
 use Rattle.gx_core.specs.Outcome.{Outcome, gives, after}
-use Rattle.gx_core.specs.Queries.{TypedFunction, TypedDeclaration}
+use Rattle.gx_plan.specs.Plan.{FunctionOfPlan, DeclarationOfPlan}
 use Rattle.gx_core.specs.QueryMeaning.{globals_bound, outcome_within}
 use Rattle.gx_store.specs.Items.{items_in}
 use Rattle.gx_store.specs.Places.{node_places}
@@ -24,12 +24,12 @@ returns-in_err-globals-clause-failed c = λ later x.
     let core = c.args.core.now in
     let limit = c.args.limit in
     let documents : List PlainNode = node_places later c.args.documents.now in
-    let functions : List TypedFunction = functions_in c.as_slice-functions.result.now in
+    let functions : List FunctionOfPlan = functions_in c.as_slice-functions.result.now in
     let found : functions ≡ functions_of core.declarations = ap functions_in c.as_slice-functions.ensures.value ∙ c.in_ok-functions.ensures ∙ ap functions_of c.as_slice-declarations.ensures in
     let next : Bindings → Forest → Outcome Items = λ bindings left. meaning (context_over s functions bindings limit) core.body bindings left in
     let whole : outcome_within limit s core documents store ≡ after (globals_bound s functions limit c.as_slice-declarations.result.now documents [] store) next =
-    ap (λ (fs : List TypedFunction). after (globals_bound s fs limit core.declarations documents [] store) (λ bindings left. meaning (context_over s fs bindings limit) core.body bindings left)) (sym found)
-    ∙ ap (λ (ds : List TypedDeclaration). after (globals_bound s functions limit ds documents [] store) next) (sym c.as_slice-declarations.ensures) in
+    ap (λ (fs : List FunctionOfPlan). after (globals_bound s fs limit core.declarations documents [] store) (λ bindings left. meaning (context_over s fs bindings limit) core.body bindings left)) (sym found)
+    ∙ ap (λ (ds : List DeclarationOfPlan). after (globals_bound s functions limit ds documents [] store) next) (sym c.as_slice-declarations.ensures) in
     let p = err_from_is_err_and c.from_residual-in_err-globals.result c.from_residual-in_err-globals.ensures.1 in
     rw (p.1, p.2) (fails_also _ _ _ whole (c.in_err-globals.ensures.failed later next x))
 
@@ -44,12 +44,12 @@ returns-clause-value c = λ later x.
     let core = c.args.core.now in
     let limit = c.args.limit in
     let documents : List PlainNode = node_places later c.args.documents.now in
-    let functions : List TypedFunction = functions_in c.as_slice-functions.result.now in
+    let functions : List FunctionOfPlan = functions_in c.as_slice-functions.result.now in
     let found : functions ≡ functions_of core.declarations = ap functions_in c.as_slice-functions.ensures.value ∙ c.in_ok-functions.ensures ∙ ap functions_of c.as_slice-declarations.ensures in
     let next : Bindings → Forest → Outcome Items = λ bindings left. meaning (context_over s functions bindings limit) core.body bindings left in
     let whole : outcome_within limit s core documents store ≡ after (globals_bound s functions limit c.as_slice-declarations.result.now documents [] store) next =
-    ap (λ (fs : List TypedFunction). after (globals_bound s fs limit core.declarations documents [] store) (λ bindings left. meaning (context_over s fs bindings limit) core.body bindings left)) (sym found)
-    ∙ ap (λ (ds : List TypedDeclaration). after (globals_bound s functions limit ds documents [] store) next) (sym c.as_slice-declarations.ensures) in
+    ap (λ (fs : List FunctionOfPlan). after (globals_bound s fs limit core.declarations documents [] store) (λ bindings left. meaning (context_over s fs bindings limit) core.body bindings left)) (sym found)
+    ∙ ap (λ (ds : List DeclarationOfPlan). after (globals_bound s functions limit ds documents [] store) next) (sym c.as_slice-declarations.ensures) in
     let y = through c.bound_globals.new.store c.value_of.new.store later c.value_of.ensures.grows.extends x in
     let outcome : outcome_within limit s core documents store ≡ next (items_of later c.in_ok-globals.globals) c.bound_globals.new.store =
     whole ∙ ap (λ (o : Outcome Bindings). after o next) (c.in_ok-globals.ensures.value later y) in
@@ -62,12 +62,12 @@ returns-clause-failed c = λ later x.
     let core = c.args.core.now in
     let limit = c.args.limit in
     let documents : List PlainNode = node_places later c.args.documents.now in
-    let functions : List TypedFunction = functions_in c.as_slice-functions.result.now in
+    let functions : List FunctionOfPlan = functions_in c.as_slice-functions.result.now in
     let found : functions ≡ functions_of core.declarations = ap functions_in c.as_slice-functions.ensures.value ∙ c.in_ok-functions.ensures ∙ ap functions_of c.as_slice-declarations.ensures in
     let next : Bindings → Forest → Outcome Items = λ bindings left. meaning (context_over s functions bindings limit) core.body bindings left in
     let whole : outcome_within limit s core documents store ≡ after (globals_bound s functions limit c.as_slice-declarations.result.now documents [] store) next =
-    ap (λ (fs : List TypedFunction). after (globals_bound s fs limit core.declarations documents [] store) (λ bindings left. meaning (context_over s fs bindings limit) core.body bindings left)) (sym found)
-    ∙ ap (λ (ds : List TypedDeclaration). after (globals_bound s functions limit ds documents [] store) next) (sym c.as_slice-declarations.ensures) in
+    ap (λ (fs : List FunctionOfPlan). after (globals_bound s fs limit core.declarations documents [] store) (λ bindings left. meaning (context_over s fs bindings limit) core.body bindings left)) (sym found)
+    ∙ ap (λ (ds : List DeclarationOfPlan). after (globals_bound s functions limit ds documents [] store) next) (sym c.as_slice-declarations.ensures) in
     let y = through c.bound_globals.new.store c.value_of.new.store later c.value_of.ensures.grows.extends x in
     let outcome : outcome_within limit s core documents store ≡ next (items_of later c.in_ok-globals.globals) c.bound_globals.new.store =
     whole ∙ ap (λ (o : Outcome Bindings). after o next) (c.in_ok-globals.ensures.value later y) in

@@ -1,7 +1,7 @@
 use Rattle.std.proofs.Common.{◌∷◌, [], List, map, ap, sym, ◌∙◌}
 use Rattle.std.proofs.lemmas.List.{map-append, nil_from_length}
 use Rattle.gx_core.specs.Meaning.{Denotation, meaning}
-use Rattle.gx_core.specs.Soundness.{TypedExpression}
+use Rattle.gx_plan.specs.Plan.{PlanExpression}
 use Rattle.gx_eval.specs.declared.evaluation.Pending.{Pending}
 use Rattle.gx_eval.specs.declared.evaluation.Pending.TheVariants.{Mark}
 use Rattle.gx_eval.specs.Resume.{in_order, resume_marked}
@@ -18,5 +18,5 @@ loop-part-preserved c = λ k stacks values marks bindings forest.
 
 pub returns : goal.returns
 returns c = λ k stacks values marks bindings forest.
-    ap (λ (es : List TypedExpression). in_order (map (meaning k) es) (resume_marked k c.loop-part.work stacks) values marks bindings forest) (sym (nil_from_length c.loop-part.rest.now c.in_default.ensures.cases))
+    ap (λ (es : List PlanExpression). in_order (map (meaning k) es) (resume_marked k c.loop-part.work stacks) values marks bindings forest) (sym (nil_from_length c.loop-part.rest.now c.in_default.ensures.cases))
     ∙ c.loop-part.invariant k stacks values marks bindings forest

@@ -2,12 +2,12 @@ use Rattle.std.proofs.Common.{◌≡◌, ◌∷◌, [], ◌++◌, List, length, 
 use Rattle.gx_facets.specs.declared.Atomic.{Atomic}
 use Rattle.gx_model.specs.Item.{Items, atom}
 use Rattle.std.specs.Prelude.{OnOk, IfErr}
+use Rattle.gx_plan.specs.declared.plan.Carried.{Carried}
 use Rattle.gx_core.specs.declared.operator.Operator.TheVariants as operators
 use Rattle.gx_core.specs.declared.cases.TypeCase.{TypeCase}
 use Rattle.gx_core.specs.declared.expression.Clause.{Clause}
 use Rattle.gx_core.specs.declared.expression.SortKey.{SortKey}
-use Rattle.gx_types.specs.SequenceType.{SequenceType}
-use Rattle.gx_core.specs.Soundness.{TypedExpression}
+use Rattle.gx_plan.specs.Plan.{PlanExpression}
 use Rattle.gx_core.specs.Meaning.{Context, Denotation, denoted, meaning}
 use Rattle.gx_core.specs.ExpressionView.{kind_of_clause, order_of_key, parts_of_block}
 use Rattle.gx_store.specs.Items.{items_in}
@@ -57,7 +57,7 @@ returns-in-Call-clause-failed c = λ calls later x.
 pub returns-in_ok-open_construct-in-Construct-clause-value : goal.returns-in_ok-open_construct-in-Construct-clause-value
 returns-in_ok-open_construct-in-Construct-clause-value c = λ calls later x.
     let k : Context = context_with c.args.schemas.now calls in
-    let parts : List TypedExpression = c.as_slice-in-Construct.result.now in
+    let parts : List PlanExpression = c.as_slice-in-Construct.result.now in
     rw (← c.expression.view_is, c.in-Construct.is, ← c.as_slice-in-Construct.ensures.value)
     (subst (λ (means : List Denotation). outcome_of k c.args.store.now later c.open_construct.new.self
     ≡ outcome_behind k later (denoted k (operators.Construct c.in-Construct.constructor (length parts)) means (items_of later c.args.self.now.scope) c.args.store.now) c.args.self.now) (sym (each_argument k parts)) (c.in_ok-open_construct-in-Construct.ensures k c.args.store.now later))
@@ -65,7 +65,7 @@ returns-in_ok-open_construct-in-Construct-clause-value c = λ calls later x.
 pub returns-in_ok-open_user_call-in-User-clause-value : goal.returns-in_ok-open_user_call-in-User-clause-value
 returns-in_ok-open_user_call-in-User-clause-value c = λ calls later x.
     let k : Context = context_with c.args.schemas.now calls in
-    let parts : List TypedExpression = c.as_slice-in-User.result.now in
+    let parts : List PlanExpression = c.as_slice-in-User.result.now in
     rw (← c.expression.view_is, c.in-User.is, ← c.as_slice-in-User.ensures.value)
     (subst (λ (means : List Denotation). outcome_of k c.args.store.now later c.open_user_call.new.self
     ≡ outcome_behind k later (denoted k (operators.User c.in-User.signature (length parts)) means (items_of later c.args.self.now.scope) c.args.store.now) c.args.self.now) (sym (each_argument k parts)) (c.in_ok-open_user_call-in-User.ensures k c.args.store.now later))
@@ -96,8 +96,8 @@ returns-in-Step-clause-failed c = λ calls later x. rw (← c.expression.view_is
 pub returns-in_ok-open_block-in-Block-clause-value : goal.returns-in_ok-open_block-in-Block-clause-value
 returns-in_ok-open_block-in-Block-clause-value c = λ calls later x.
     let k : Context = context_with c.args.schemas.now calls in
-    let clauses : List (Clause SequenceType) = c.deref-in-Block.result.now in
-    let keys : List (SortKey SequenceType) = c.deref-in-Block-2.result.now in
+    let clauses : List (Clause Carried) = c.deref-in-Block.result.now in
+    let keys : List (SortKey Carried) = c.deref-in-Block-2.result.now in
     rw (← c.expression.view_is, c.in-Block.is, ← c.deref-in-Block.ensures.value, ← c.deref-in-Block-2.ensures.value, ← c.deref-in-Block-3.ensures)
     (c.in_ok-open_block-in-Block.ensures k c.args.store.now later
     ∙ ap (λ (parts : List Denotation). outcome_behind k later (denoted k (operators.Block (map kind_of_clause clauses) (map order_of_key keys)) parts (items_of later c.args.self.now.scope) c.args.store.now) c.args.self.now)
@@ -123,7 +123,7 @@ pub returns-in_ok-open_switch-in-Switch-clause-value : goal.returns-in_ok-open_s
 returns-in_ok-open_switch-in-Switch-clause-value c = λ calls later x.
     let k : Context = context_with c.args.schemas.now calls in
     let cases : List TypeCase = c.as_slice-in-Switch.result.now in
-    let branches : List TypedExpression = c.as_slice-in-Switch-2.result.now in
+    let branches : List PlanExpression = c.as_slice-in-Switch-2.result.now in
     rw (← c.expression.view_is, c.in-Switch.is, ← c.deref-in-Switch.ensures, ← c.as_slice-in-Switch.ensures, ← c.as_slice-in-Switch-2.ensures.value)
     (c.in_ok-open_switch-in-Switch.ensures k c.args.store.now later
     ∙ ap (λ (parts : List Denotation). outcome_behind k later (denoted k (operators.Switch cases c.in-Switch.default) (meaning k c.deref-in-Switch.result.now ∷ parts) (items_of later c.args.self.now.scope) c.args.store.now) c.args.self.now)

@@ -2,7 +2,7 @@ use Rattle.std.proofs.Common.{◌≡◌, ◌+◌, ◌-◌, List, length, map, ap
 use Rattle.std.proofs.lemmas.List.{length-map}
 use Rattle.gx_model.specs.Item.{Items}
 use Rattle.gx_core.specs.Meaning.{Bindings, Denotation, meaning}
-use Rattle.gx_core.specs.Soundness.{TypedExpression}
+use Rattle.gx_plan.specs.Plan.{PlanExpression}
 use Rattle.gx_store.specs.Items.{items_in}
 use Rattle.gx_eval.specs.declared.evaluation.Pending.{Pending}
 use Rattle.gx_eval.specs.Resume.{Stacks, items_of, stacks_of, in_order, resume_marked}
@@ -14,7 +14,7 @@ returns c = λ k forest later.
     let values : Items = items_in later c.args.self.now.values.items in
     let stacks : Stacks = stacks_of later c.args.self.now in
     let bindings : Bindings = items_of later c.args.self.now.scope in
-    let parts : List TypedExpression = c.args.arguments.now in
+    let parts : List PlanExpression = c.args.arguments.now in
     let means : List Denotation = map (meaning k) parts in
     let all : (length parts - 2) + 2 ≡ length means = omega (arith, c.requires, length-map parts (meaning k)) in
     c.in_ok-mark_parts.ensures k stacks values stacks.marks bindings forest

@@ -1,7 +1,7 @@
 use Rattle.std.proofs.Common.{◌≡◌, ◌+◌, ◌∷◌, [], ◌++◌, ℕ, List, length, map, take, drop, rules, ap, sym, ◌∙◌}
 use Rattle.std.proofs.lemmas.List.{map-append, nil_from_length}
-use Rattle.gx_types.specs.SequenceType.{SequenceType}
 use Rattle.gx_model.specs.Item.{Items}
+use Rattle.gx_plan.specs.declared.plan.Carried.{Carried}
 use Rattle.gx_core.specs.declared.expression.Clause.{Clause}
 use Rattle.gx_core.specs.declared.expression.Clause.TheVariants.{For, Let, Where}
 use Rattle.gx_core.specs.declared.expression.SortKey.{SortKey}
@@ -9,7 +9,7 @@ use Rattle.gx_core.specs.Bindings.{clause_numbers_bound}
 use Rattle.gx_core.specs.ExpressionView.{kind_of_clause, order_of_key, parts_of_block}
 use Rattle.gx_core.specs.Blocks.{tuples_of}
 use Rattle.gx_core.specs.Outcome.{after}
-use Rattle.gx_core.specs.Soundness.{TypedExpression}
+use Rattle.gx_plan.specs.Plan.{PlanExpression}
 use Rattle.gx_core.specs.Meaning.{Bindings, Denotation, meaning}
 use Rattle.gx_store.specs.Items.{items_in}
 use Rattle.gx_eval.specs.declared.blocks.BlockWork.TheVariants.{Keys}
@@ -26,7 +26,7 @@ returns-in_default c = λ k forest later.
     let stacks : Stacks = stacks_of later c.args.self.now in
     let bindings : Bindings = items_of later c.args.self.now.scope in
     let work : List Pending = c.args.self.now.work in
-    let keys : List (SortKey SequenceType) = c.args.rest.keys.now in
+    let keys : List (SortKey Carried) = c.args.rest.keys.now in
     let row : Bindings = items_of later c.in_ok-row.row.items in
     let none : c.args.rest.clauses.now ≡ [] = nil_from_length c.args.rest.clauses.now c.in_default.ensures.cases in
     let rows : map (row_in later) c.push.new.self.items ≡ stacks.found.rows ++ row ∷ [] =
@@ -41,18 +41,18 @@ returns-in-For c = λ k forest later.
     let stacks : Stacks = stacks_of later c.args.self.now in
     let bindings : Bindings = items_of later c.args.self.now.scope in
     let work : List Pending = c.args.self.now.work in
-    let keys : List (SortKey SequenceType) = c.args.rest.keys.now in
-    let body : TypedExpression = c.args.rest.body.now in
-    let others : List (Clause SequenceType) = c.in-Some.others.now in
+    let keys : List (SortKey Carried) = c.args.rest.keys.now in
+    let body : PlanExpression = c.args.rest.body.now in
+    let others : List (Clause Carried) = c.in-Some.others.now in
     let n : ℕ = c.args.rest.bound in
     let parts : List Denotation = map (meaning k) (parts_of_block others keys body) in
     let first_of : c.args.rest.clauses.now ≡ c.in-Some.clause.now ∷ others = search rules in
-    let clauses : c.args.rest.clauses.now ≡ For c.in-For.binder c.in-For.position c.in-For.source ∷ others = first_of ∙ ap (λ (x : Clause SequenceType). x ∷ others) c.in-For.is in
-    let inner : c.in_ok-bound.bound ≡ n + length (clause_numbers_bound (kind_of_clause (For c.in-For.binder c.in-For.position c.in-For.source))) = c.in_ok-bound.ensures ∙ ap (λ (x : Clause SequenceType). n + length (clause_numbers_bound (kind_of_clause x))) c.in-For.is in
+    let clauses : c.args.rest.clauses.now ≡ For c.in-For.binder c.in-For.position c.in-For.source ∷ others = first_of ∙ ap (λ (x : Clause Carried). x ∷ others) c.in-For.is in
+    let inner : c.in_ok-bound.bound ≡ n + length (clause_numbers_bound (kind_of_clause (For c.in-For.binder c.in-For.position c.in-For.source))) = c.in_ok-bound.ensures ∙ ap (λ (x : Clause Carried). n + length (clause_numbers_bound (kind_of_clause x))) c.in-For.is in
     where_done c.open_part.result _ _ _ (c.open_part.ensures k forest later)
     (for_walks (map kind_of_clause others) (map order_of_key keys) parts (meaning k c.in-For.source) c.in-For.binder.variable c.in-For.position n c.in_ok-bound.bound bindings values c.count_of-first.result stacks forest
     (λ vs beside left. resume k work vs beside bindings left) inner (c.count_of-first.ensures later)
-    ∙ ap (λ (cs : List (Clause SequenceType)). after (tuples_of (map kind_of_clause cs) (map order_of_key keys) (map (meaning k) (parts_of_block cs keys body)) (take n bindings) (drop n bindings) forest)
+    ∙ ap (λ (cs : List (Clause Carried)). after (tuples_of (map kind_of_clause cs) (map order_of_key keys) (map (meaning k) (parts_of_block cs keys body)) (take n bindings) (drop n bindings) forest)
     (with_more (λ vs beside left. resume k work vs beside bindings left) values stacks)) (sym clauses))
 
 pub returns-in-Let : goal.returns-in-Let
@@ -61,18 +61,18 @@ returns-in-Let c = λ k forest later.
     let stacks : Stacks = stacks_of later c.args.self.now in
     let bindings : Bindings = items_of later c.args.self.now.scope in
     let work : List Pending = c.args.self.now.work in
-    let keys : List (SortKey SequenceType) = c.args.rest.keys.now in
-    let body : TypedExpression = c.args.rest.body.now in
-    let others : List (Clause SequenceType) = c.in-Some.others.now in
+    let keys : List (SortKey Carried) = c.args.rest.keys.now in
+    let body : PlanExpression = c.args.rest.body.now in
+    let others : List (Clause Carried) = c.in-Some.others.now in
     let n : ℕ = c.args.rest.bound in
     let parts : List Denotation = map (meaning k) (parts_of_block others keys body) in
     let first_of : c.args.rest.clauses.now ≡ c.in-Some.clause.now ∷ others = search rules in
-    let clauses : c.args.rest.clauses.now ≡ Let c.in-Let.binder c.in-Let.value ∷ others = first_of ∙ ap (λ (x : Clause SequenceType). x ∷ others) c.in-Let.is in
-    let inner : c.in_ok-bound.bound ≡ n + length (clause_numbers_bound (kind_of_clause (Let c.in-Let.binder c.in-Let.value))) = c.in_ok-bound.ensures ∙ ap (λ (x : Clause SequenceType). n + length (clause_numbers_bound (kind_of_clause x))) c.in-Let.is in
+    let clauses : c.args.rest.clauses.now ≡ Let c.in-Let.binder c.in-Let.value ∷ others = first_of ∙ ap (λ (x : Clause Carried). x ∷ others) c.in-Let.is in
+    let inner : c.in_ok-bound.bound ≡ n + length (clause_numbers_bound (kind_of_clause (Let c.in-Let.binder c.in-Let.value))) = c.in_ok-bound.ensures ∙ ap (λ (x : Clause Carried). n + length (clause_numbers_bound (kind_of_clause x))) c.in-Let.is in
     where_done c.open_part-in-Let.result _ _ _ (c.open_part-in-Let.ensures k forest later)
     (let_walks (map kind_of_clause others) (map order_of_key keys) parts (meaning k c.in-Let.value) c.in-Let.binder.variable n c.in_ok-bound.bound bindings values c.count_of-first.result stacks forest
     (λ vs beside left. resume k work vs beside bindings left) inner (c.count_of-first.ensures later)
-    ∙ ap (λ (cs : List (Clause SequenceType)). after (tuples_of (map kind_of_clause cs) (map order_of_key keys) (map (meaning k) (parts_of_block cs keys body)) (take n bindings) (drop n bindings) forest)
+    ∙ ap (λ (cs : List (Clause Carried)). after (tuples_of (map kind_of_clause cs) (map order_of_key keys) (map (meaning k) (parts_of_block cs keys body)) (take n bindings) (drop n bindings) forest)
     (with_more (λ vs beside left. resume k work vs beside bindings left) values stacks)) (sym clauses))
 
 pub returns-in-Where : goal.returns-in-Where
@@ -81,16 +81,16 @@ returns-in-Where c = λ k forest later.
     let stacks : Stacks = stacks_of later c.args.self.now in
     let bindings : Bindings = items_of later c.args.self.now.scope in
     let work : List Pending = c.args.self.now.work in
-    let keys : List (SortKey SequenceType) = c.args.rest.keys.now in
-    let body : TypedExpression = c.args.rest.body.now in
-    let others : List (Clause SequenceType) = c.in-Some.others.now in
+    let keys : List (SortKey Carried) = c.args.rest.keys.now in
+    let body : PlanExpression = c.args.rest.body.now in
+    let others : List (Clause Carried) = c.in-Some.others.now in
     let n : ℕ = c.args.rest.bound in
     let parts : List Denotation = map (meaning k) (parts_of_block others keys body) in
     let first_of : c.args.rest.clauses.now ≡ c.in-Some.clause.now ∷ others = search rules in
-    let clauses : c.args.rest.clauses.now ≡ Where c.in-Where.condition ∷ others = first_of ∙ ap (λ (x : Clause SequenceType). x ∷ others) c.in-Where.is in
-    let inner : c.in_ok-bound.bound ≡ n + length (clause_numbers_bound (kind_of_clause (Where c.in-Where.condition))) = c.in_ok-bound.ensures ∙ ap (λ (x : Clause SequenceType). n + length (clause_numbers_bound (kind_of_clause x))) c.in-Where.is in
+    let clauses : c.args.rest.clauses.now ≡ Where c.in-Where.condition ∷ others = first_of ∙ ap (λ (x : Clause Carried). x ∷ others) c.in-Where.is in
+    let inner : c.in_ok-bound.bound ≡ n + length (clause_numbers_bound (kind_of_clause (Where c.in-Where.condition))) = c.in_ok-bound.ensures ∙ ap (λ (x : Clause Carried). n + length (clause_numbers_bound (kind_of_clause x))) c.in-Where.is in
     where_done c.open_part-in-Where.result _ _ _ (c.open_part-in-Where.ensures k forest later)
     (where_walks (map kind_of_clause others) (map order_of_key keys) parts (meaning k c.in-Where.condition) n c.in_ok-bound.bound bindings values c.count_of-first.result stacks forest
     (λ vs beside left. resume k work vs beside bindings left) inner (c.count_of-first.ensures later)
-    ∙ ap (λ (cs : List (Clause SequenceType)). after (tuples_of (map kind_of_clause cs) (map order_of_key keys) (map (meaning k) (parts_of_block cs keys body)) (take n bindings) (drop n bindings) forest)
+    ∙ ap (λ (cs : List (Clause Carried)). after (tuples_of (map kind_of_clause cs) (map order_of_key keys) (map (meaning k) (parts_of_block cs keys body)) (take n bindings) (drop n bindings) forest)
     (with_more (λ vs beside left. resume k work vs beside bindings left) values stacks)) (sym clauses))

@@ -3,7 +3,7 @@ use Rattle.std.proofs.lemmas.Result.{err_from_is_err_and}
 use Rattle.gx_model.specs.Item.{Items}
 use Rattle.gx_core.specs.Functions.{context_over}
 use Rattle.gx_core.specs.Meaning.{Bindings, Context}
-use Rattle.gx_core.specs.Queries.{TypedFunction}
+use Rattle.gx_plan.specs.Plan.{FunctionOfPlan}
 use Rattle.gx_store.specs.Items.{items_in}
 use Rattle.gx_eval.specs.declared.evaluation.Pending.{Pending}
 use Rattle.gx_eval.specs.Frames.{functions_in, frames_resumed}
@@ -14,7 +14,7 @@ use Rattle.gx_eval.proofs.frames.ActiveCalls.advance.Goals as goal
 pub returns-in-Some-clause-same : goal.returns-in-Some-clause-same
 returns-in-Some-clause-same c = λ later x.
     let s = c.args.schemas.now in
-    let functions : List TypedFunction = functions_in c.args.declared.functions.now in
+    let functions : List FunctionOfPlan = functions_in c.args.declared.functions.now in
     let globals : Bindings = items_of later c.args.declared.globals.now in
     let active = c.args.self.now in
     let k : Context = context_over s functions globals active.left in
@@ -27,7 +27,7 @@ returns-in-Some-clause-same c = λ later x.
 pub returns-in_err-step-clause-failed : goal.returns-in_err-step-clause-failed
 returns-in_err-step-clause-failed c = λ later x.
     let s = c.args.schemas.now in
-    let functions : List TypedFunction = functions_in c.args.declared.functions.now in
+    let functions : List FunctionOfPlan = functions_in c.args.declared.functions.now in
     let globals : Bindings = items_of later c.args.declared.globals.now in
     let active = c.args.self.now in
     let k : Context = context_over s functions globals active.left in

@@ -4,7 +4,7 @@ use Rattle.gx_model.specs.Item.{Items}
 use Rattle.gx_core.specs.Functions.{context_over}
 use Rattle.gx_core.specs.Meaning.{Bindings, Context}
 use Rattle.gx_core.specs.Outcome.{Outcome}
-use Rattle.gx_core.specs.Queries.{TypedFunction}
+use Rattle.gx_plan.specs.Plan.{FunctionOfPlan}
 use Rattle.gx_eval.specs.BoundItems.{bounds_in}
 use Rattle.gx_eval.specs.Frames.{functions_in, frames_resumed}
 use Rattle.gx_eval.specs.Resume.{items_of, outcome_behind}
@@ -18,14 +18,14 @@ returns-in_default-clause-failed c = λ schemas signature forest later number.
 
 pub returns-in_default-function_at-clause-failed : goal.returns-in_default-function_at-clause-failed
 returns-in_default-function_at-clause-failed c = λ schemas signature forest later number.
-    let functions : List TypedFunction = functions_in c.args.declared.functions.now in
+    let functions : List FunctionOfPlan = functions_in c.args.declared.functions.now in
     let more : c.args.self.now.left ≡ suc c.in-Some.left = omega (arith, c.in-Some.ensures.0, c.in-Some.ensures.1) in
     let missing : slice_get functions signature.number ≡ None = ap (slice_get functions) number ∙ sym c.in_default-function_at.ensures in
     call_is_wrong schemas functions (items_of later c.args.declared.globals.now) c.args.self.now.left c.in-Some.left signature (bounds_in later c.args.arguments.items) forest more missing
 
 pub returns-clause-value : goal.returns-clause-value
 returns-clause-value c = λ schemas signature forest later number.
-    let functions : List TypedFunction = functions_in c.args.declared.functions.now in
+    let functions : List FunctionOfPlan = functions_in c.args.declared.functions.now in
     let globals : Bindings = items_of later c.args.declared.globals.now in
     let active = c.args.self.now in
     let k : Context = context_over schemas functions globals active.left in

@@ -9,7 +9,7 @@ use Rattle.gx_core.specs.Converting.{arguments_converted}
 use Rattle.gx_core.specs.Functions.{calls_over, context_over}
 use Rattle.gx_core.specs.Meaning.{Bindings, CallOutcomes, Context}
 use Rattle.gx_core.specs.Outcome.{Outcome, gives, after}
-use Rattle.gx_core.specs.Queries.{TypedFunction}
+use Rattle.gx_plan.specs.Plan.{FunctionOfPlan}
 use Rattle.gx_store.specs.Items.{items_in}
 use Rattle.gx_eval.specs.BoundItems.{bounds_in}
 use Rattle.gx_eval.specs.Failing.{FailsSo}
@@ -23,7 +23,7 @@ pub returns-in_err-operands-clause-failed : goal.returns-in_err-operands-clause-
 returns-in_err-operands-clause-failed c = λ later x.
     let s = c.args.schemas.now in
     let store = c.args.store.now in
-    let functions : List TypedFunction = functions_in c.args.declared.functions.now in
+    let functions : List FunctionOfPlan = functions_in c.args.declared.functions.now in
     let globals : Bindings = items_of later c.args.declared.globals.now in
     let caller = c.args.self.now.innermost in
     let k : Context = context_over s functions globals c.args.self.now.left in
@@ -37,7 +37,7 @@ returns-in_err-arguments-clause-failed c = λ later x.
     let s = c.args.schemas.now in
     let store = c.args.store.now in
     let signature = c.args.signature.now in
-    let functions : List TypedFunction = functions_in c.args.declared.functions.now in
+    let functions : List FunctionOfPlan = functions_in c.args.declared.functions.now in
     let globals : Bindings = items_of later c.args.declared.globals.now in
     let caller = c.args.self.now.innermost in
     let calls : CallOutcomes = calls_over s functions globals c.args.self.now.left in
@@ -62,7 +62,7 @@ returns-clause-value c = λ later x.
     let s = c.args.schemas.now in
     let store = c.args.store.now in
     let signature = c.args.signature.now in
-    let functions : List TypedFunction = functions_in c.args.declared.functions.now in
+    let functions : List FunctionOfPlan = functions_in c.args.declared.functions.now in
     let globals : Bindings = items_of later c.args.declared.globals.now in
     let caller = c.args.self.now.innermost in
     let calls : CallOutcomes = calls_over s functions globals c.args.self.now.left in
@@ -87,7 +87,7 @@ returns-clause-failed c = λ later x.
     let s = c.args.schemas.now in
     let store = c.args.store.now in
     let signature = c.args.signature.now in
-    let functions : List TypedFunction = functions_in c.args.declared.functions.now in
+    let functions : List FunctionOfPlan = functions_in c.args.declared.functions.now in
     let globals : Bindings = items_of later c.args.declared.globals.now in
     let caller = c.args.self.now.innermost in
     let calls : CallOutcomes = calls_over s functions globals c.args.self.now.left in

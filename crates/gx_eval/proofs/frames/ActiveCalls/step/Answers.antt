@@ -1,7 +1,7 @@
 use Rattle.std.proofs.Common.{List}
 use Rattle.gx_core.specs.Functions.{calls_over}
 use Rattle.gx_core.specs.Meaning.{Bindings, CallOutcomes}
-use Rattle.gx_core.specs.Queries.{TypedFunction}
+use Rattle.gx_plan.specs.Plan.{FunctionOfPlan}
 use Rattle.gx_eval.specs.Frames.{functions_in}
 use Rattle.gx_eval.specs.Resume.{context_with, items_of, outcome_of, outcome_with}
 use Rattle.gx_eval.proofs.CallFrames.{frames_follow, failure_follows}
@@ -19,7 +19,7 @@ returns-in_default-clause-grows c = c.step.ensures.grows
 pub returns-in_default-clause-value : goal.returns-in_default-clause-value
 returns-in_default-clause-value c = λ later x.
     let s = c.args.schemas.now in
-    let functions : List TypedFunction = functions_in c.args.declared.functions.now in
+    let functions : List FunctionOfPlan = functions_in c.args.declared.functions.now in
     let globals : Bindings = items_of later c.args.declared.globals.now in
     let calls : CallOutcomes = calls_over s functions globals c.args.self.now.left in
     frames_follow c.step.result s functions globals later c.args.self.now.waiting
@@ -29,7 +29,7 @@ returns-in_default-clause-value c = λ later x.
 pub returns-in_default-clause-failed : goal.returns-in_default-clause-failed
 returns-in_default-clause-failed c = λ later x.
     let s = c.args.schemas.now in
-    let functions : List TypedFunction = functions_in c.args.declared.functions.now in
+    let functions : List FunctionOfPlan = functions_in c.args.declared.functions.now in
     let globals : Bindings = items_of later c.args.declared.globals.now in
     let calls : CallOutcomes = calls_over s functions globals c.args.self.now.left in
     failure_follows c.step.result s functions globals later c.args.self.now.waiting

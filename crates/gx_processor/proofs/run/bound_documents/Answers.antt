@@ -6,14 +6,14 @@ use Rattle.gx_processor.specs.Command.{bytes_of}
 use Rattle.gx_processor.specs.Externals.{external_words}
 use Rattle.gx_processor.proofs.AskedDocuments.{length_bound}
 use Rattle.gx_processor.proofs.RunLemmas.{misbound_so}
-use Rattle.gx_processor.proofs.run.on_documents.Goals as goal
+use Rattle.gx_processor.proofs.run.bound_documents.Goals as goal
 
-pub on_files-requires-clause-each : goal.on_files-requires-clause-each
-on_files-requires-clause-each g c = ap length (ap word_bytes c.as_slice.ensures.value ∙ c.in-Ok.ensures.1) ∙ length_bound (external_words (plain_query c.args.core.now).declarations) (bytes_of c.args.words.now)
+pub documents_in-requires-clause-each : goal.documents_in-requires-clause-each
+documents_in-requires-clause-each g c = ap length (ap word_bytes c.as_slice.ensures.value ∙ c.in-Ok.ensures.1) ∙ length_bound (external_words (plain_query c.args.core.now).declarations) (bytes_of c.args.words.now)
 
 pub returns-in-Ok-clause-runs : goal.returns-in-Ok-clause-runs
 returns-in-Ok-clause-runs g c =
-    c.on_files.ensures.runs (bytes_of c.args.words.now) (record { bound = c.in-Ok.ensures.0; named = ap word_bytes c.as_slice.ensures.value ∙ c.in-Ok.ensures.1 })
+    c.documents_in.ensures.runs (bytes_of c.args.words.now) (record { bound = c.in-Ok.ensures.0; named = ap word_bytes c.as_slice.ensures.value ∙ c.in-Ok.ensures.1 })
 
 pub returns-in-Err-clause-runs : goal.returns-in-Err-clause-runs
 returns-in-Err-clause-runs g c =
