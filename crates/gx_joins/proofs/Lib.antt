@@ -1,0 +1,3 @@
+pub mod EqualKeys
+pub mod RightItems
+pub mod Pairs

@@ -1,0 +1,2 @@
+pub mod HashJoin
+pub mod Pairs
