@@ -28,6 +28,7 @@ use Rattle.gx_rule_laws.specs.QuietValues.{carried_binders, plan_setting, is_com
 use Rattle.gx_rule_laws.specs.FairJoins.{IsFairOperator, AreJoinsFair, JoinsInPartsAreFair, HasFairJoins}
 use Rattle.gx_rule_laws.specs.RewrittenQueries.{IsOrderly, typed_function_of, AreOrderlyDeclarations}
 use Rattle.gx_rule_laws.specs.FairPlans.{HasNoJoin, HaveNoJoin, DeclarationsHaveNoJoin, BecomesFair, DeclarationsBecomeFair, CompiledPlansHaveNoJoin, RewrittenPlansHaveFairJoins}
+use Rattle.gx_rule_laws.proofs.ApartPlans.{becomes_apart}
 use Rattle.gx_rule_laws.proofs.FairRewriting.{rewriting_keeps_joins_fair}
 use Rattle.gx_rule_laws.proofs.RewrittenPlans.{ReachesDeclarations, parts_reached}
 
@@ -104,13 +105,15 @@ compiled_plans_have_no_join query = record { declarations = declarations_without
 module _ (s : SchemaSet) (is : IsSchemaSet s) (variables : Types) (none : look_up variables 0 ≡ None) where
   becomes_fair : (e other : PlanExpression) (types : Types) → IsFullySound s (carried_binders variables) (typed_expression e) types → IsOrderly variables e types
       → HasNoJoin e → PlanReaches (plan_rule_setting s variables) e other → BecomesFair s variables e other types
-  becomes_fair e other types sound orderly no_join reaches known calls all =
-      rewriting_keeps_joins_fair s variables known calls e other types (record {
-        stands = record { schemas = is; regular = orderly.regular; sound = sound.sound known calls all; well_bound = sound.well_bound known calls all };
-        positions = orderly.positions;
-        none_carries = none;
-        none_typed = orderly.none_typed;
-      }) (no_join_is_fair (plan_setting s variables known calls) e types no_join) reaches
+  becomes_fair e other types sound orderly no_join reaches = record {
+    apart = becomes_apart (plan_rule_setting s variables) e other no_join reaches;
+    valued = λ known calls all. rewriting_keeps_joins_fair s variables known calls e other types (record {
+      stands = record { schemas = is; regular = orderly.regular; sound = sound.sound known calls all; well_bound = sound.well_bound known calls all };
+      positions = orderly.positions;
+      none_carries = none;
+      none_typed = orderly.none_typed;
+    }) (no_join_is_fair (plan_setting s variables known calls) e types no_join) reaches;
+  }
 
   all_become_fair : (functions : List (TypedFunction × Types)) (ds es : List (Declaration Carried)) (types : Types)
       → DeclarationsAreFullySound s (carried_binders variables) functions (map typed_declaration ds) types → AreOrderlyDeclarations variables ds types

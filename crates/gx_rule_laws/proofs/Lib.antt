@@ -40,6 +40,9 @@ pub mod FairSteps
 pub mod FairRules
 pub mod FairMaking
 pub mod FairRewriting
+pub mod ApartRules
+pub mod ApartRewriting
+pub mod ApartPlans
 pub mod FairPlans
 pub mod BoundNumbers
 pub mod NoneCarried

@@ -18,6 +18,7 @@ use Rattle.gx_plan.specs.FullSoundness.{body_types, IsFullySoundQuery}
 use Rattle.gx_rules.specs.Normal.{QueryReaches}
 use Rattle.gx_rule_laws.specs.QuietValues.{carried_binders, plan_setting}
 use Rattle.gx_rule_laws.specs.KeepingSoundness.{plan_rule_setting}
+use Rattle.gx_rule_laws.specs.ApartJoins.{AreJoinsApart}
 use Rattle.gx_rule_laws.specs.FairJoins.{HasFairJoins}
 use Rattle.gx_rule_laws.specs.RewrittenQueries.{typed_function_of, IsOrderlyPlan}
 
@@ -46,11 +47,12 @@ CompiledPlansHaveNoJoin = (query : TypedCore) → PlanHasNoJoin (compiled_query 
 
 -- ---- joins of rewritten plans
 
--- the joins of what an expression is rewritten to are fair, whatever functions the expression may call
-abbrev pub BecomesFair : SchemaSet → (variables : Types) → (e other : PlanExpression) → Types → Type 0
-BecomesFair schemas variables e other types =
-    (known : List FunctionSignature) (calls : CallOutcomes) → AllCalls known (typed_expression e)
-    → HasFairJoins (plan_setting schemas variables known calls) other types
+-- the joins of what an expression is rewritten to are fair: their sides stand apart, and their right sources and keys have values, whatever
+-- functions the expression may call
+pub record BecomesFair (schemas : SchemaSet) (variables : Types) (e other : PlanExpression) (types : Types) : Type 0 where
+  pub apart : AreJoinsApart other
+  pub valued : (known : List FunctionSignature) (calls : CallOutcomes) → AllCalls known (typed_expression e)
+      → HasFairJoins (plan_setting schemas variables known calls) other types
 
 abbrev pub DeclarationBecomesFair : SchemaSet → (variables : Types) → (declaration other : Declaration Carried) → Types → Type 0
 DeclarationBecomesFair schemas variables (Global name binder (Some value)) (Global other_name other_binder (Some other)) types =

@@ -3,5 +3,7 @@ pub mod QuietValues
 pub mod KeepingSoundness
 pub mod RewrittenQueries
 pub mod FairJoins
+pub mod ApartJoins
 pub mod FairPlans
+pub mod ApartPlans
 pub mod TypedQueries

@@ -5,6 +5,8 @@ ghost use Rattle.gx_rule_laws.specs.QuietValues.{QuietExpressionsHaveValues};
 ghost use Rattle.gx_rule_laws.specs.KeepingSoundness.{RulesHandOn, RewritingKeeps};
 ghost use Rattle.gx_rule_laws.specs.RewrittenQueries.{RewritingKeepsOutcomes};
 ghost use Rattle.gx_rule_laws.specs.FairJoins.{RewritingKeepsJoinsFair};
+ghost use Rattle.gx_rule_laws.specs.ApartJoins.{RewritingKeepsJoinsApart};
+ghost use Rattle.gx_rule_laws.specs.ApartPlans.{RewrittenPlansHaveApartJoins};
 ghost use Rattle.gx_rule_laws.specs.FairPlans.{CompiledPlansHaveNoJoin, RewrittenPlansHaveFairJoins};
 ghost use Rattle.gx_rule_laws.specs.TypedQueries.{CompiledPlansAreOrderly, RewrittenPlansHaveTheOutcome};
 ghost use Rattle.gx_rules.specs.Rules.{Joins, One, Sorted, Slashes, Single, Decided, Idle, Flat};
@@ -80,7 +82,19 @@ pub fn rewriting_keeps_joins_fair()
     ensures { RewritingKeepsJoinsFair }
 {}
 
-/// Each join of a plan that any number of applications of rules lead to is fair, where the plan given has no join.
+/// The two sides of joins stay apart in what any number of applications of rules lead to: the right source and both keys make nothing, the
+/// right source and the right key do not name the left variable, and the left key does not name the right one.
+pub fn rewriting_keeps_joins_apart()
+    ensures { RewritingKeepsJoinsApart }
+{}
+
+/// The two sides of each join stand apart in a plan that any number of applications of rules lead to, where the plan given has no join.
+pub fn rewritten_plans_have_apart_joins()
+    ensures { RewrittenPlansHaveApartJoins }
+{}
+
+/// Each join of a plan that any number of applications of rules lead to is fair, where the plan given has no join: its two sides stand apart,
+/// and its right source and its keys have values of one family, and leave the forest as it is.
 pub fn rewritten_plans_have_fair_joins()
     ensures { RewrittenPlansHaveFairJoins }
 {}
