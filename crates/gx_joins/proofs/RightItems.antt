@@ -3,9 +3,7 @@ use Rattle.std.proofs.Common.{◌≡◌, ℕ, suc, Bool, true, false, cond, List
 use Rattle.std.specs.List.{All}
 use Rattle.std.proofs.lemmas.List.Elements.{All-head, All-tail}
 use Rattle.gx_model.specs.Forest.{Forest}
-use Rattle.gx_model.specs.Growth.{Extends}
 use Rattle.gx_model.specs.Item.{Item, Items}
-use Rattle.gx_model.proofs.PublicLaws.{growth_is_an_order}
 use Rattle.gx_core.specs.Meaning.{for_each}
 use Rattle.gx_core.specs.Outcome.{Outcome, gives, raises, wrong, after, given}
 use Rattle.gx_joins.specs.HashJoin.{for_rows}
@@ -15,13 +13,13 @@ abbrev pub for_items : (result : Item → Forest → Outcome Items) → (done : 
 for_items result done [] forest = gives done forest
 for_items result done (y ∷ ys) forest = after (result y forest) (λ more left. for_items result (done ++ more) ys left)
 
--- the part of an item only adds trees
-abbrev pub Grows : (result : Item → Forest → Outcome Items) → (now : Forest) → Item → Type 0
-Grows result now y = (before after : Forest) (value : Items) → Extends now before → result y before ≡ gives value after → Extends before after
+-- the part of an item leads from forests of a kind to such forests
+abbrev pub Grows : (result : Item → Forest → Outcome Items) → (Reached : Forest → Type 0) → Item → Type 0
+Grows result Reached y = (before after : Forest) (value : Items) → Reached before → result y before ≡ gives value after → Reached after
 
 -- the test of an item comes to the part where the item passes, and else to nothing
-abbrev pub IsTested : (test result : Item → Forest → Outcome Items) → (passes : Item → Bool) → (now : Forest) → Item → Type 0
-IsTested test result passes now y = (forest : Forest) → Extends now forest → test y forest ≡ (if passes y then result y forest else gives [] forest)
+abbrev pub IsTested : (test result : Item → Forest → Outcome Items) → (passes : Item → Bool) → (Reached : Forest → Type 0) → Item → Type 0
+IsTested test result passes Reached y = (forest : Forest) → Reached forest → test y forest ≡ (if passes y then result y forest else gives [] forest)
 
 -- by what an outcome is
 pub after_alike : {R S : Type 0} (o : Outcome R) (next other : R → Forest → Outcome S)
@@ -32,25 +30,25 @@ after_alike wrong next other h = refl
 
 -- ---- loops
 
-pub loop_by_items : (test result : Item → Forest → Outcome Items) (passes : Item → Bool) (now : Forest) (ys : Items)
-    → All (IsTested test result passes now) ys → All (Grows result now) ys → (number : ℕ) (done : Items) (forest : Forest) → Extends now forest
+pub loop_by_items : (test result : Item → Forest → Outcome Items) (passes : Item → Bool) (Reached : Forest → Type 0) (ys : Items)
+    → All (IsTested test result passes Reached) ys → All (Grows result Reached) ys → (number : ℕ) (done : Items) (forest : Forest) → Reached forest
     → for_each (λ n y f. test y f) number done ys forest ≡ for_items result done (filter passes ys) forest
-loop_by_items test result passes now [] tested growing number done forest extends = refl
-loop_by_items test result passes now (y ∷ ys) tested growing number done forest extends =
-    ap (λ o. after o (λ more left. for_each (λ n z f. test z f) (suc number) (done ++ more) ys left)) (All-head (IsTested test result passes now) y ys tested forest extends)
+loop_by_items test result passes Reached [] tested growing number done forest extends = refl
+loop_by_items test result passes Reached (y ∷ ys) tested growing number done forest extends =
+    ap (λ o. after o (λ more left. for_each (λ n z f. test z f) (suc number) (done ++ more) ys left)) (All-head (IsTested test result passes Reached) y ys tested forest extends)
     ∙ by_test (passes y)
-    (λ more left extended. loop_by_items test result passes now ys (All-tail (IsTested test result passes now) y ys tested) (All-tail (Grows result now) y ys growing)
+    (λ more left extended. loop_by_items test result passes Reached ys (All-tail (IsTested test result passes Reached) y ys tested) (All-tail (Grows result Reached) y ys growing)
     (suc number) (done ++ more) left extended)
   where
     by_test : (b : Bool)
-        → ((more : Items) (left : Forest) → Extends now left
+        → ((more : Items) (left : Forest) → Reached left
         → for_each (λ n z f. test z f) (suc number) (done ++ more) ys left ≡ for_items result (done ++ more) (filter passes ys) left)
         → after (if b then result y forest else gives [] forest) (λ more left. for_each (λ n z f. test z f) (suc number) (done ++ more) ys left)
         ≡ for_items result done (cond b (y ∷ filter passes ys) (filter passes ys)) forest
     by_test true others =
         after_alike (result y forest) (λ more left. for_each (λ n z f. test z f) (suc number) (done ++ more) ys left)
         (λ more left. for_items result (done ++ more) (filter passes ys) left)
-        (λ more left e. others more left (growth_is_an_order.transitive now forest left extends (All-head (Grows result now) y ys growing forest left more extends e)))
+        (λ more left e. others more left (All-head (Grows result Reached) y ys growing forest left more extends e))
     by_test false others = others [] forest extends ∙ ap (λ (so_far : Items). for_items result so_far (filter passes ys) forest) (append-nil done)
 
 -- ---- rows
@@ -91,18 +89,18 @@ behind_done result done items forest =
 
 -- ---- growth
 
-pub items_grow : (result : Item → Forest → Outcome Items) (now : Forest) (items : Items) → All (Grows result now) items
-    → (done : Items) (before later : Forest) (value : Items) → Extends now before → for_items result done items before ≡ gives value later → Extends now later
-items_grow result now [] growing done before later value extends e = subst (λ forest. Extends now forest) (let same : before ≡ later = cc in same) extends
-items_grow result now (y ∷ items) growing done before later value extends e =
+pub items_grow : (result : Item → Forest → Outcome Items) (Reached : Forest → Type 0) (items : Items) → All (Grows result Reached) items
+    → (done : Items) (before later : Forest) (value : Items) → Reached before → for_items result done items before ≡ gives value later → Reached later
+items_grow result Reached [] growing done before later value extends e = subst Reached (let same : before ≡ later = cc in same) extends
+items_grow result Reached (y ∷ items) growing done before later value extends e =
     by_outcome (result y before) refl e
-    (λ more left extended f. items_grow result now items (All-tail (Grows result now) y items growing) (done ++ more) left later value extended f)
+    (λ more left extended f. items_grow result Reached items (All-tail (Grows result Reached) y items growing) (done ++ more) left later value extended f)
   where
     by_outcome : (o : Outcome Items) → result y before ≡ o → after o (λ more left. for_items result (done ++ more) items left) ≡ gives value later
-        → ((more : Items) (left : Forest) → Extends now left → for_items result (done ++ more) items left ≡ gives value later → Extends now later)
-        → Extends now later
+        → ((more : Items) (left : Forest) → Reached left → for_items result (done ++ more) items left ≡ gives value later → Reached later)
+        → Reached later
     by_outcome (gives more left) is f others =
         others more left
-        (growth_is_an_order.transitive now before left extends (All-head (Grows result now) y items growing before left more extends is)) f
+        (All-head (Grows result Reached) y items growing before left more extends is) f
     by_outcome (raises code) is f others = absurd (cc)
     by_outcome wrong is f others = absurd (cc)

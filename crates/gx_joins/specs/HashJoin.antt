@@ -54,13 +54,17 @@ right_key_at join bindings y forest = join.right_key ((join.right, y ∷ []) ∷
 abbrev pub result_at : JoinParts Denotation → Bindings → Item → Item → Forest → Outcome Items
 result_at join bindings x y forest = join.result ((join.right, y ∷ []) ∷ (join.left, x ∷ []) ∷ bindings) forest
 
+-- over the items of the left source and those of the right one; where there is none of these, no key is evaluated
+abbrev pub joined_with : JoinParts Denotation → Bindings → (left right : Items) → Forest → Outcome Items
+joined_with join bindings left [] forest = gives [] forest
+joined_with join bindings left (y ∷ ys) forest =
+    after (table_of (right_key_at join bindings) [] (y ∷ ys) forest)
+    (λ table now. for_pairs (left_key_at join bindings) (result_at join bindings) table (y ∷ ys) [] left now)
+
 -- over the items of the left source; where there is none, nothing else is evaluated
 abbrev pub joined_over : JoinParts Denotation → Bindings → (left : Items) → Forest → Outcome Items
 joined_over join bindings [] forest = gives [] forest
-joined_over join bindings (x ∷ xs) forest =
-    after (join.other bindings forest) (λ ys now.
-    after (table_of (right_key_at join bindings) [] ys now) (λ table left.
-    for_pairs (left_key_at join bindings) (result_at join bindings) table ys [] (x ∷ xs) left))
+joined_over join bindings (x ∷ xs) forest = after (join.other bindings forest) (λ ys now. joined_with join bindings (x ∷ xs) ys now)
 
 abbrev pub hash_join : JoinParts Denotation → Denotation
 hash_join join bindings forest = after (join.source bindings forest) (λ xs left. joined_over join bindings xs left)

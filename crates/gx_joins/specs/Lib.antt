@@ -1,2 +1,3 @@
 pub mod HashJoin
 pub mod Pairs
+pub mod JoinedMeaning

@@ -1,0 +1,13 @@
+pub mod AlikeOperators
+pub mod AlikeJoins
+pub mod KeyValues
+pub mod TypedBindings
+pub mod StayingValues
+pub mod SteadyJoins
+pub mod FairMeaning
+pub mod JoinedCalls
+pub mod JoinedStandIns
+pub mod LoopItems
+pub mod LoopsInRules
+pub mod LoopsInRewriting
+pub mod JoinedPlans

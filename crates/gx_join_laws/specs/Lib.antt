@@ -1,0 +1,4 @@
+pub mod LoopItems
+pub mod FairMeaning
+pub mod JoinedStanding
+pub mod JoinedPlans
