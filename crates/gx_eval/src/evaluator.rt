@@ -1,4 +1,4 @@
-// The evaluation of queries.
+// The evaluation of plans.
 
 ghost use Rattle.std.specs.Prelude.{◌≡◌, ◌≢◌, ◌<◌, IfOk, IfErr, All};
 ghost use Rattle.gx_model.specs.Belongs.{Belongs};
@@ -13,13 +13,11 @@ ghost use Rattle.gx_core.specs.Refusal.{Fails};
 ghost use Rattle.gx_nodes.specs.Entries.{count_in};
 ghost use Rattle.gx_store.specs.Items.{items_in};
 ghost use Rattle.gx_store.specs.Places.{node_places};
+ghost use Rattle.gx_eval.specs.TableJoins.{MayJoinByTables};
 
-use crate::declarations::query_value;
-use crate::failure::Failure;
-use gx_base::limits::ACTIVE_CALLS;
 use gx_core::dyn_error::DynError;
 use gx_core::laws::{query_meaning_looks_at_no_type, sound_queries_keep_their_types};
-use gx_model::laws::growth_is_an_order;
+use gx_machine::evaluator::joined_value;
 use gx_plan::laws::plans_have_the_outcome_of_their_typed_core;
 use gx_plan::plan::Plan;
 use gx_store::item::Item;
@@ -28,10 +26,11 @@ use gx_store::store::Store;
 use gx_types::schemas::Schemas;
 use std::alloc::Global;
 
-/// The value of a plan to which no rule of rewriting applies and that does not go wrong, or the dynamic error that it raises (XQuery
-/// 1.0, section 2.2.3.2), with the documents of its external variables, nodes of the store in the order of their declarations. The
-/// globals are evaluated in order before the body. Where the forest is honest, the documents are of their declared types and the plan
-/// is sound, the value belongs to the type that the plan carries. Whatever the answer, the store keeps its nodes.
+/// The value of a plan to which no rule of rewriting applies, whose joins may be evaluated by tables of keys and which does not go
+/// wrong, or the dynamic error that it raises (XQuery 1.0, section 2.2.3.2), with the documents of its external variables, nodes of the
+/// store in the order of their declarations. The globals are evaluated in order before the body. Where the forest is honest, the
+/// documents are of their declared types and the plan is sound, the value belongs to the type that the plan carries. Whatever the
+/// answer, the store keeps its nodes.
 pub fn evaluate(
     alloc: Global,
     schemas: &Schemas,
@@ -41,6 +40,7 @@ pub fn evaluate(
 ) -> Result<Vec<Item>, DynError>
     requires normal { IsNormalPlan schemas.now plan.now }
     requires there { All (λ m. m.number < count_in store.old) documents.now }
+    requires joins { MayJoinByTables schemas.now plan.now.query (node_places store.old documents.now) store.old }
     requires right { plan_outcome schemas.now plan.now.query (node_places store.old documents.now) store.old ≢ wrong }
     ensures extends { Extends store.old store.new }
     ensures honest { IsHonest schemas.now store.old → IsHonest schemas.now store.new }
@@ -49,14 +49,8 @@ pub fn evaluate(
     ensures belongs { IsHonest schemas.now store.old → DocumentsFit schemas.now store.old (plain_query (typed_query plan.now.query)).declarations (node_places store.old documents.now) → IsSoundQuery schemas.now (typed_query plan.now.query)
         → IfOk result (λ v. Belongs schemas.now store.new (items_in store.new v.items) (kind_carried plan.now.query.body)) }
 {
-    growth_is_an_order();
     query_meaning_looks_at_no_type();
     sound_queries_keep_their_types();
     plans_have_the_outcome_of_their_typed_core();
-    match query_value(alloc, schemas, &plan.query, store, documents, ACTIVE_CALLS) {
-        Ok(items) => Ok(items),
-        Err(Failure::Raised(code)) => Err(DynError::Raised(code)),
-        Err(Failure::Memory) => Err(DynError::Memory),
-        Err(Failure::Wrong) => unreachable!(),
-    }
+    joined_value(alloc, schemas, &plan.query, store, documents)
 }

@@ -1,38 +1,4 @@
-//! The evaluator: the outcome that a query's meaning has.
+//! The evaluation of plans.
 #![tactic(auto)]
 
-mod answer;
-mod arithmetic;
-mod blocks;
-mod bound;
-mod calling;
-mod change;
-mod comparison;
-mod constructing;
-mod converting;
-mod declarations;
-mod deep_equal;
-mod evaluation;
 pub mod evaluator;
-mod failure;
-mod filtering;
-mod frames;
-mod hand;
-mod instances;
-mod item_calling;
-mod locals;
-mod looping;
-mod marking;
-mod node_calling;
-mod nodes;
-mod opening;
-mod operand;
-mod operators;
-mod paths;
-mod range;
-mod sets;
-mod single;
-mod stepping;
-mod switching;
-mod tuples;
-mod value_calling;

@@ -13,6 +13,8 @@ use Rattle.gx_documents.specs.Documents.{document_nodes}
 use Rattle.gx_documents.specs.Laws.{DocumentsAreAsAsked, DocumentsAreHonest}
 use Rattle.gx_plan.specs.declared.plan.Plan.{Plan}
 use Rattle.gx_plan.specs.PlanMeaning.{plan_outcome}
+use Rattle.gx_join_laws.specs.JoinedPlans.{JoinedPlansHaveTheOutcome}
+use Rattle.gx_eval.specs.TableJoins.{MayJoinByTables}
 use Rattle.gx_rules.specs.Normal.{IsNormalQuery, IsNormalPlan}
 use Rattle.gx_rule_laws.specs.TypedQueries.{IsTypedWell, RewrittenPlansHaveTheOutcome}
 use Rattle.gx_processor.specs.declared.refusal.Refusal.{Refusal}
@@ -33,6 +35,12 @@ module _ (s : SchemaSet) (core : TypedCore) (plan : Plan) (rewritten : IsRewritt
         keeps ACTIVE_CALLS s core plan.query (document_nodes forest) forest invariant well (documents_honest honest s core forest invariant externals documents)
         (documents_fit fits s invariant (plain_query core).declarations forest externals documents) rewritten.rewritten.reached
         ∙ sym (looks ACTIVE_CALLS s core (document_nodes forest) forest)
+
+    pub plan_joins_by_tables : JoinedPlansHaveTheOutcome → MayJoinByTables s plan.query (document_nodes forest) forest
+    plan_joins_by_tables joined =
+        joined ACTIVE_CALLS s core plan.query (document_nodes forest) forest invariant well (documents_honest honest s core forest invariant externals documents)
+        (documents_fit fits s invariant (plain_query core).declarations forest externals documents) rewritten.rewritten.reached
+        ∙ sym (looks ACTIVE_CALLS s core (document_nodes forest) forest) ∙ sym plan_has_outcome
 
     pub plan_is_not_wrong : SoundQueriesKeepTheirTypes → IsSoundQuery s core → plan_outcome s plan.query (document_nodes forest) forest ≢ wrong
     plan_is_not_wrong keep sound =

@@ -9,6 +9,7 @@ ghost use Rattle.gx_documents.specs.BindingView.{word_bytes};
 ghost use Rattle.gx_documents.specs.Bindings.{files_bound, misbound, word_of_name};
 ghost use Rattle.gx_documents.specs.Documents.{document_nodes};
 ghost use Rattle.gx_documents.specs.Requests.{all_asked, asked_by};
+ghost use Rattle.gx_eval.specs.TableJoins.{MayJoinByTables};
 ghost use Rattle.gx_include.specs.Decision.{is_included};
 ghost use Rattle.gx_io.specs.LibraryUse.{library_use};
 ghost use Rattle.gx_nodes.specs.Entries.{count_in};
@@ -46,6 +47,7 @@ use gx_documents::laws::{documents_are_as_asked, documents_are_honest};
 use gx_eval::evaluator::evaluate;
 use gx_include::decision::is_included;
 use gx_io::Library;
+use gx_join_laws::laws::joined_plans_have_the_outcome;
 use gx_plan::laws::plans_have_the_outcome_of_their_typed_core;
 use gx_plan::plan::Plan;
 use gx_rule_laws::laws::rewritten_plans_have_the_outcome;
@@ -348,6 +350,7 @@ fn value_text(
     documents_are_as_asked();
     query_meaning_looks_at_no_type();
     rewritten_plans_have_the_outcome();
+    joined_plans_have_the_outcome();
     match plan_of(alloc, schemas, core) {
         Ok(plan) => plan_value(alloc, schemas, plan, store),
         Err(AllocError) => Err(Refusal::Memory),
@@ -357,6 +360,7 @@ fn value_text(
 // The serialisation of the value of a plan over the trees of documents. The plan ends here.
 fn plan_value(alloc: Global, schemas: &Schemas, plan: Plan, store: Store) -> Result<String, Refusal>
     requires normal { IsNormalPlan schemas.now plan }
+    requires joins { MayJoinByTables schemas.now plan.query (document_nodes store) store }
     requires right { plan_outcome schemas.now plan.query (document_nodes store) store ≢ wrong }
     ensures answers { AnswersSo (AnswersOutcome (plan_outcome schemas.now plan.query (document_nodes store) store)) result }
     ensures own { IsEvaluated result }
@@ -369,6 +373,7 @@ fn plan_value(alloc: Global, schemas: &Schemas, plan: Plan, store: Store) -> Res
 #[tactic(auto, using(crate::proofs::RunLemmas::dynamic_error))]
 fn written(alloc: Global, schemas: &Schemas, plan: &Plan, store: Store) -> Result<String, Refusal>
     requires normal { IsNormalPlan schemas.now plan.now }
+    requires joins { MayJoinByTables schemas.now plan.now.query (document_nodes store) store }
     requires right { plan_outcome schemas.now plan.now.query (document_nodes store) store ≢ wrong }
     ensures answers { AnswersSo (AnswersOutcome (plan_outcome schemas.now plan.now.query (document_nodes store) store)) result }
     ensures own { IsEvaluated result }
@@ -392,6 +397,7 @@ fn value_of(
     store: &mut Store,
 ) -> Result<Vec<Item>, DynError>
     requires normal { IsNormalPlan schemas.now plan.now }
+    requires joins { MayJoinByTables schemas.now plan.now.query (document_nodes store.old) store.old }
     requires right { plan_outcome schemas.now plan.now.query (document_nodes store.old) store.old ≢ wrong }
     ensures value { IfOk result (λ v. plan_outcome schemas.now plan.now.query (document_nodes store.old) store.old ≡ gives (items_in store.new v.items) store.new) }
     ensures raised { IfErr result (λ e. Fails e (plan_outcome schemas.now plan.now.query (document_nodes store.old) store.old)) }
@@ -412,6 +418,7 @@ fn evaluated(
     requires normal { IsNormalPlan schemas.now plan.now }
     requires there { All (λ m. m.number < count_in store.now) documents.now }
     requires nodes { node_places store.now documents.now ≡ document_nodes store.now }
+    requires joins { MayJoinByTables schemas.now plan.now.query (document_nodes store.old) store.old }
     requires right { plan_outcome schemas.now plan.now.query (document_nodes store.old) store.old ≢ wrong }
     ensures value { IfOk result (λ v. plan_outcome schemas.now plan.now.query (document_nodes store.old) store.old ≡ gives (items_in store.new v.items) store.new) }
     ensures raised { IfErr result (λ e. Fails e (plan_outcome schemas.now plan.now.query (document_nodes store.old) store.old)) }

@@ -1,61 +1,37 @@
-use Rattle.std.proofs.Common.{◌≡◌, List, refl, ap, sym, ◌∙◌, subst}
-use Rattle.gx_base.specs.declared.limits.TheConstants.{ACTIVE_CALLS}
-use Rattle.gx_model.specs.Forest.{PlainNode}
+use Rattle.std.proofs.Common.{◌≡◌, ◌≢◌, List, sym, subst}
+use Rattle.std.specs.Prelude.{IfOk, IfErr, Vec}
+use Rattle.std.specs.Global.{Global}
+use Rattle.gx_model.specs.Belongs.{Belongs}
 use Rattle.gx_model.specs.Item.{Items}
-use Rattle.gx_core.specs.Outcome.{Outcome}
-use Rattle.gx_core.specs.QueryMeaning.{outcome_within, plain_query}
-use Rattle.gx_core.specs.Expression.{At, annotation_of}
-use Rattle.gx_types.specs.SequenceType.{SequenceType}
-use Rattle.gx_core.specs.Soundness.{typed_setting, Keeps}
+use Rattle.gx_core.specs.Outcome.{Outcome, gives, wrong}
+use Rattle.gx_core.specs.Refusal.{Fails}
+use Rattle.gx_plan.specs.Plan.{kind_carried}
+use Rattle.gx_plan.specs.PlanMeaning.{plan_outcome}
+use Rattle.gx_store.specs.declared.item.Item.{Item}
+use Rattle.gx_store.specs.Items.{items_in}
 use Rattle.gx_store.specs.Places.{node_places}
-use Rattle.gx_plan.specs.Plan.{PlanExpression, kind_carried, typed_expression, typed_query}
-use Rattle.gx_eval.specs.Failing.{FailsSo}
-use Rattle.gx_eval.proofs.MadeTrees.{places_stay, extends_itself}
+use Rattle.gx_eval.proofs.PlanValues.{of_value, value_belongs}
 use Rattle.gx_eval.proofs.evaluator.evaluate.Goals as goal
 
--- a typed expression has the type that it carries in a plan
-type_is_carried : (e : PlanExpression) → annotation_of (typed_expression e) ≡ kind_carried e
-type_is_carried (At place outer carried operator parts) = refl
+pub joined_value-requires-clause-right : goal.joined_value-requires-clause-right
+joined_value-requires-clause-right c = subst (λ (o : Outcome Items). o ≢ wrong) (sym c.requires.joins) c.requires.right
 
-pub returns-in-Ok-clause-value : goal.returns-in-Ok-clause-value
-returns-in-Ok-clause-value c =
+pub returns-clause-value : goal.returns-clause-value
+returns-clause-value c =
+    subst (λ (o : Outcome Items). IfOk c.joined_value.result (λ v. o ≡ gives (items_in c.joined_value.new.store v.items) c.joined_value.new.store)) c.requires.joins c.joined_value.ensures.value
+
+pub returns-clause-raised : goal.returns-clause-raised
+returns-clause-raised c = subst (λ (o : Outcome Items). IfErr c.joined_value.result (λ e. Fails e o)) c.requires.joins c.joined_value.ensures.raised
+
+pub returns-clause-belongs : goal.returns-clause-belongs
+returns-clause-belongs c = λ honest fits sound.
     let s = c.args.schemas.now in
     let query = c.args.plan.now.query in
     let before = c.args.store.now in
-    let now = c.query_value.new.store in
-    ap (λ (documents : List PlainNode). outcome_within ACTIVE_CALLS s query documents before) (sym (places_stay before now c.args.documents.now c.requires.there c.query_value.ensures.grows.extends))
-    ∙ c.in-Ok.ensures.value now (extends_itself now)
-
-pub returns-in-Ok-clause-belongs : goal.returns-in-Ok-clause-belongs
-returns-in-Ok-clause-belongs c = λ honest fits sound.
-    let s = c.args.schemas.now in
-    let query = c.args.plan.now.query in
-    let before = c.args.store.now in
-    let now = c.query_value.new.store in
-    let documents : List PlainNode = node_places before c.args.documents.now in
-    (subst (λ (o : Outcome Items). Keeps (typed_setting s) before (kind_carried query.body) o)
-    (c.query_meaning_looks_at_no_type.ensures ACTIVE_CALLS s (typed_query query) documents before
-    ∙ sym (c.plans_have_the_outcome_of_their_typed_core.ensures ACTIVE_CALLS s query documents before)
-    ∙ ap (λ (ds : List PlainNode). outcome_within ACTIVE_CALLS s query ds before) (sym (places_stay before now c.args.documents.now c.requires.there c.query_value.ensures.grows.extends))
-    ∙ c.in-Ok.ensures.value now (extends_itself now))
-    (subst (λ (t : SequenceType). Keeps (typed_setting s) before t (outcome_within ACTIVE_CALLS s (plain_query (typed_query query)) documents before)) (type_is_carried query.body)
-    (c.sound_queries_keep_their_types.ensures ACTIVE_CALLS s (typed_query query) documents before honest fits sound))).fact
-
-pub returns-in-Err-Raised-clause-raised : goal.returns-in-Err-Raised-clause-raised
-returns-in-Err-Raised-clause-raised c =
-    let s = c.args.schemas.now in
-    let query = c.args.plan.now.query in
-    let before = c.args.store.now in
-    let now = c.query_value.new.store in
-    ap (λ (documents : List PlainNode). outcome_within ACTIVE_CALLS s query documents before) (sym (places_stay before now c.args.documents.now c.requires.there c.query_value.ensures.grows.extends))
-    ∙ subst (λ e. FailsSo e (outcome_within ACTIVE_CALLS s query (node_places now c.args.documents.now) before)) c.in-Err-Raised.field-0-is (c.in-Err-Raised.ensures.failed now (extends_itself now))
-
-pub unreachable-requires : goal.unreachable-requires
-unreachable-requires c =
-    let s = c.args.schemas.now in
-    let query = c.args.plan.now.query in
-    let before = c.args.store.now in
-    let now = c.query_value.new.store in
-    c.requires.right
-    (ap (λ (documents : List PlainNode). outcome_within ACTIVE_CALLS s query documents before) (sym (places_stay before now c.args.documents.now c.requires.there c.query_value.ensures.grows.extends))
-    ∙ subst (λ e. FailsSo e (outcome_within ACTIVE_CALLS s query (node_places now c.args.documents.now) before)) c.in-Err-Wrong.field-0-is (c.in-Err-Wrong.ensures.failed now (extends_itself now)))
+    let now = c.joined_value.new.store in
+    let documents = node_places before c.args.documents.now in
+    of_value c.joined_value.result (λ (v : Vec Item Global). plan_outcome s query documents before ≡ gives (items_in now v.items) now)
+    (λ (v : Vec Item Global). Belongs s now (items_in now v.items) (kind_carried query.body))
+    (λ v e. value_belongs c.query_meaning_looks_at_no_type.ensures c.plans_have_the_outcome_of_their_typed_core.ensures c.sound_queries_keep_their_types.ensures
+    s query documents before now (items_in now v.items) honest fits sound e)
+    (subst (λ (o : Outcome Items). IfOk c.joined_value.result (λ (v : Vec Item Global). o ≡ gives (items_in now v.items) now)) c.requires.joins c.joined_value.ensures.value)

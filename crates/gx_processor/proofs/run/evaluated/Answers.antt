@@ -4,7 +4,12 @@ use Rattle.gx_core.specs.Outcome.{gives, wrong}
 use Rattle.gx_core.specs.Refusal.{Fails}
 use Rattle.gx_plan.specs.PlanMeaning.{plan_outcome}
 use Rattle.gx_store.specs.Items.{items_in}
+use Rattle.gx_eval.specs.TableJoins.{MayJoinByTables}
 use Rattle.gx_processor.proofs.run.evaluated.Goals as goal
+
+pub evaluate-requires-clause-joins : goal.evaluate-requires-clause-joins
+evaluate-requires-clause-joins c =
+    subst (λ (ds : List PlainNode). MayJoinByTables c.args.schemas.now c.args.plan.now.query ds c.args.store.now) (sym c.requires.nodes) c.requires.joins
 
 pub evaluate-requires-clause-right : goal.evaluate-requires-clause-right
 evaluate-requires-clause-right c =

@@ -1,9 +1,0 @@
-use Rattle.std.proofs.Common.{◌≡◌, ◌++◌, take}
-use Rattle.gx_model.specs.Forest.{Forest}
-use Rattle.gx_model.specs.Item.{atoms}
-use Rattle.gx_store.specs.Items.{items_in}
-use Rattle.gx_eval.proofs.nodes.append_atoms.Given as goal
-
--- the atomic values so far stand behind the items
-abbrev pub invariant-loop-value : goal.invariant-loop-value
-invariant-loop-value l = (later : Forest) → items_in later l.items.items ≡ items_in later l.fn.items.items ++ atoms (take l.value-index l.values)

@@ -1,7 +1,0 @@
--- What a loop of steps comes to.
-use Rattle.gx_core.specs.Meaning.{Context, Denotation, meaning}
-use Rattle.gx_core.specs.PathLaws.{loop_of_steps}
-use Rattle.gx_eval.specs.declared.paths.StepLoop.{StepLoop}
-
-abbrev pub steps_meaning : Context → StepLoop → Denotation
-steps_meaning k steps = loop_of_steps k steps.binder.now steps.axis steps.test.now (meaning k steps.source.now)

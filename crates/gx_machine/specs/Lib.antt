@@ -1,0 +1,17 @@
+pub mod Failing
+pub mod OneItem
+pub mod OrderedItems
+pub mod StepPaths
+pub mod BoundItems
+pub mod Answering
+pub mod Operators
+pub mod StepLoops
+pub mod FoundTuples
+pub mod Joining
+pub mod Resume
+pub mod Frames
+pub mod BuildFailures
+pub mod Converting
+pub mod MadeNodes
+pub mod Growing
+pub mod ItemAnswers
