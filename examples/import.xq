@@ -1,0 +1,1 @@
+import schema "" at "/dev/stdin"; 1
